@@ -1,7 +1,15 @@
 pub mod Feeding
+pub mod ImapDoor
 pub mod PlaceMaps
 pub mod Turning
+pub mod Later
+pub mod Suits
 pub mod Running
 pub mod Counting
 pub mod NodeDoor
 pub mod PlainTurns
+pub mod PlainUpdates
+pub mod UpdateLaws
+pub mod Updating
+pub mod Telling
+pub mod Refreshing

@@ -1,25 +1,25 @@
 -- The plain function of events is the only way to serve them whose acts all go by the rules.
-use Rattle.std.proofs.Common.{◌≡◌, ◌≢◌, ◌⊎◌, ◌≤◌, ◌<◌, ◌+◌, ◌-◌, ◌==◌, ℕ, zero, suc, Bool, true, false, List, [], ◌∷◌, ◌++◌, Option, Some, None, refl, sym, ap, subst, ◌∙◌, arith, inl, inr, if◌then◌else◌}
+use Rattle.std.proofs.Common.{◌≡◌, ◌⊎◌, ◌<◌, ◌-◌, ℕ, zero, suc, Bool, true, false, List, [], ◌∷◌, ◌++◌, Option, Some, None, refl, sym, ap, subst, ◌∙◌, arith, inl, inr}
 use Rattle.std.proofs.lemmas.Bool.{false≢true}
-use Rattle.std.proofs.lemmas.Bool.Decides.{nat_tests}
-use Rattle.edge_io.specs.Hosts.{OthersKept}
 use Rattle.edge_io.specs.Scripts.{Arrival}
 use Rattle.edge_io.specs.Taken.{plus}
 use Rattle.edge_io.specs.declared.events.What.{What}
 use Rattle.edge_io.specs.declared.events.What.TheVariants as what
-use Rattle.line_door.specs.Acts.{ConnectionState, Said, Departure, Plain, PlainActs, Acts}
+use Rattle.line_door.specs.Acts.{Said, Departure, Plain, PlainActs}
 use Rattle.line_door.specs.Course.{SessionState, talk, PlainRequests, PlainLast, PlainFed, PlainStep, SessionStep, Requests, Last}
 use Rattle.line_door.specs.Cuts.{CutDoor}
 use Rattle.keep_course.specs.Courses.{afters}
 use Rattle.arch_model.specs.Standing.{LastKnown}
-use Rattle.node_serve.specs.Doors.{SessionAtWork, Came, rest_if, said, is_asked, said_making}
+use Rattle.node_serve.specs.Doors.{SessionAtWork, Came, more_bytes, rest_if, said, is_asked, said_making}
+use Rattle.node_serve.specs.Ends.{is_stop}
 use Rattle.node_serve.specs.Laws.{PlainLaws, PlainIsServed}
-use Rattle.node_serve.specs.Plain.{size_of, piece_said, piece_passed, then_passed, passed_if, passed_from, passed_by, set_at, between_pieces, after_said, after_end, plain_piece, plain_event, plain_turn, plain_turns, last_world, CountsSessions, PlainActAt, PlainFedAt, PlainCameTo, PlainTurnedBy, PlainServed}
-use Rattle.node_serve.specs.Turns.{Turn, CameTo, TurnedBy, Served}
-use Rattle.node_serve.specs.World.{NodeState, outer, Around, Same, EndedAt, outside_at, others_open, one_if, closed_if, closed_at_if, open_below}
+use Rattle.node_serve.specs.Plain.{size_of, piece_said, piece_passed, then_passed, passed_if, passed_from, passed_by, between_pieces, after_said, after_end, plain_piece, plain_event, plain_updated, plain_turn, plain_turns, last_world, CountsSessions, PlainFedAt, PlainActAt, PlainCameTo, PlainActedBy, PlainUpdatedUnless, PlainTurned, PlainServed}
+use Rattle.node_serve.specs.Turns.{Turn, CameTo, ActedBy, Served}
+use Rattle.node_serve.specs.World.{NodeState, Same, EndedAt, outside_at, others_open, one_if, open_below}
 use Rattle.node_serve.specs.declared.session.Session.{Session}
-use Rattle.node_serve.proofs.Counting.{below-same, below-one, this-or}
-use Rattle.node_serve.proofs.NodeDoor.{node_cuts, node_laws, more_bytes}
+use Rattle.node_serve.proofs.Counting.{counted-one, counted-same}
+use Rattle.node_serve.proofs.NodeDoor.{node_cuts, node_laws}
+use Rattle.node_serve.proofs.PlainUpdates.{plain-acts, set-by, set-here, set-other, acted-is, counted-at, around-after, acted-at, updated-is, updated-at, updated-by, updated-counted, updated-unfailed}
 
 -- What stands after each act of a plain course.
 module _ {H : Type 0} (said_of : LastKnown → H → Departure → Said H LastKnown) (is_request : H → Bool) (more : List ℕ → H → H) (size : H → ℕ) (door : CutDoor said_of is_request more size) where
@@ -71,10 +71,6 @@ module _ {H : Type 0} (said_of : LastKnown → H → Departure → Said H LastKn
   unfolding passed_by
   passed-by h w v held fed = passed-fed fed.0 (suc (size h)) h w fed.1 v (omega arith) held fed.2 fed.3
 
--- A plain act is an act by the rules.
-plain-acts : {H A : Type 0} (words : Departure → Said H A) (i : ConnectionState) (held : Option H) (a : A) (j : ConnectionState) → PlainActs (words Plain) i held a j → Acts words i held a j
-plain-acts words i held a j acts = record { way = Plain; cause = acts.disk_kept; disk_later = omega (arith, acts.disk_kept); lost_later = omega (arith, acts.whole.lost_kept); sent = inl acts.whole }
-
 -- A plain course is a course.
 module _ {H A : Type 0} (said_of : A → H → Departure → Said H A) (is_request : H → Bool) where
   plain-step : (h : H) (w m : SessionState H A) → PlainStep said_of is_request h w m → SessionStep said_of is_request h w m
@@ -86,84 +82,6 @@ module _ {H A : Type 0} (said_of : A → H → Departure → Said H A) (is_reque
 
   pub plain-last : (w v : SessionState H A) → PlainLast said_of is_request w v → Last said_of is_request w v
   plain-last w v last = record { before = last.before; step = plain-step last.before w v last.step; ends = elim last.ends [ inl none ↦ inl none | inr rest ↦ inr (rest, last.step.acts.disk_kept) ] }
-
--- The value at one number, and at the others.
-
-set-by : {X : Type 0} (c : ℕ) (x : X) (f g : ℕ → X) (d : ℕ) → g c ≡ x → OthersKept c f g → g d ≡ set_at c x f d
-set-by {X} c x f g d here others = by (d == c) refl
-  where
-    by : (t : Bool) → (d == c) ≡ t → g d ≡ (if t then x else f d)
-    by true e = let same : d ≡ c = grind (arith, nat_tests, e) in ap g same ∙ here
-    by false e = others d (λ same. (grind (arith, nat_tests, e, same)))
-
-set-here : {X : Type 0} (c : ℕ) (x : X) (f : ℕ → X) → set_at c x f c ≡ x
-set-here {X} c x f = by (c == c) refl
-  where
-    by : (t : Bool) → (c == c) ≡ t → (if t then x else f c) ≡ x
-    by true e = refl
-    by false e = absurd (grind (arith, nat_tests, e))
-
-set-other : {X : Type 0} (c : ℕ) (x : X) (f : ℕ → X) → OthersKept c f (set_at c x f)
-set-other {X} c x f d other = by (d == c) refl
-  where
-    by : (t : Bool) → (d == c) ≡ t → (if t then x else f d) ≡ f d
-    by true e = absurd (other (grind (arith, nat_tests, e)))
-    by false e = refl
-
--- A world of these parts.
-world-is : (v : NodeState) (a : LastKnown) (f : ℕ → Option Session) (n : ℕ) (t : ℕ → Option (List ℕ)) (c : ℕ → Option ℕ) (disk lost : ℕ) (e : ℕ → Option (List ℕ)) → v.standing ≡ a → ((d : ℕ) → v.session d ≡ f d) → v.count ≡ n → ((d : ℕ) → v.out.taken d ≡ t d) → ((d : ℕ) → v.out.closings d ≡ c d) → v.out.disk ≡ disk → v.out.lost ≡ lost → ((d : ℕ) → v.out.closed_at d ≡ e d)
-    → v ≡ record { standing = a; session = f; count = n; out = outer t c disk lost e }
-world-is v a f n t c disk lost e p q r x y z l k = λ i. record {
-  standing = p i;
-  session = λ (d : ℕ). q d i;
-  count = r i;
-  out = record { taken = λ (d : ℕ). x d i; closings = λ (d : ℕ). y d i; disk = z i; lost = l i; closed_at = λ (d : ℕ). k d i };
-}
-
--- One act.
-
-acted-is : (c : ℕ) (s : Said Session LastKnown) (w v : NodeState) → PlainActAt c s w v → v ≡ after_said c s w
-acted-is c s w v act =
-    let whole = act.acts.whole in
-    let around = act.around in
-    let now : one_if (v.session c) ≡ one_if s.next = ap (λ (x : Option Session). one_if x) whole.held_is in
-    let count = around.count in
-    let closed_at : v.out.closed_at c ≡ closed_at_if s.next (plus (w.out.taken c) s.words) (w.out.closed_at c) =
-    around.closed_at ∙ ap (λ (x : Option Session). closed_at_if x (v.out.taken c) (w.out.closed_at c)) whole.held_is ∙ ap (λ (t : Option (List ℕ)). closed_at_if s.next t (w.out.closed_at c)) whole.out_is in
-    world-is v s.after (set_at c s.next w.session) ((w.count + one_if s.next) - one_if (w.session c)) (set_at c (plus (w.out.taken c) s.words) w.out.taken) (set_at c (closed_if s.next (w.out.closings c)) w.out.closings) w.out.disk w.out.lost
-    (set_at c (closed_at_if s.next (plus (w.out.taken c) s.words) (w.out.closed_at c)) w.out.closed_at) whole.after_is (λ d. set-by c s.next w.session v.session d whole.held_is around.sessions) (omega (arith, count, now))
-    (λ d. set-by c (plus (w.out.taken c) s.words) w.out.taken v.out.taken d whole.out_is around.taken)
-    (λ d. set-by c (closed_if s.next (w.out.closings c)) w.out.closings v.out.closings d (around.closed ∙ ap (λ (x : Option Session). closed_if x (w.out.closings c)) whole.held_is) around.closings) act.acts.disk_kept whole.lost_kept
-    (λ d. set-by c (closed_at_if s.next (plus (w.out.taken c) s.words) (w.out.closed_at c)) w.out.closed_at v.out.closed_at d closed_at around.closed_at_others)
-
-counted-at : (c : ℕ) (w : NodeState) → CountsSessions w → one_if (w.session c) ≤ w.count
-counted-at c w counted = let all : open_below c w.session + one_if (w.session c) ≤ w.count = counted (suc c) in omega (arith, all)
-
-around-after : (c : ℕ) (s : Said Session LastKnown) (w : NodeState) → CountsSessions w → Around c w (after_said c s w)
-around-after c s w counted =
-    let here = set-here c s.next w.session in
-    let now : one_if (set_at c s.next w.session c) ≡ one_if s.next = ap (λ (x : Option Session). one_if x) here in
-    let few = counted-at c w counted in
-    let said : Option (List ℕ) = plus (w.out.taken c) s.words in
-    record {
-      sessions = set-other c s.next w.session;
-      taken = set-other c (plus (w.out.taken c) s.words) w.out.taken;
-      closings = set-other c (closed_if s.next (w.out.closings c)) w.out.closings;
-      closed = set-here c (closed_if s.next (w.out.closings c)) w.out.closings ∙ sym (ap (λ (x : Option Session). closed_if x (w.out.closings c)) here);
-      count = omega (arith, now, few);
-      closed_at = set-here c (closed_at_if s.next said (w.out.closed_at c)) w.out.closed_at ∙ sym (ap (λ (x : Option Session). closed_at_if x said (w.out.closed_at c)) here)
-          ∙ sym (ap (λ (t : Option (List ℕ)). closed_at_if (set_at c s.next w.session c) t (w.out.closed_at c)) (set-here c said w.out.taken));
-      closed_at_others = set-other c (closed_at_if s.next said (w.out.closed_at c)) w.out.closed_at;
-    }
-
-acts-after : (c : ℕ) (s : Said Session LastKnown) (w : NodeState) → PlainActs s (outside_at c w.out) ((after_said c s w).session c) s.after (outside_at c (after_said c s w).out)
-acts-after c s w = record {
-  disk_kept = refl;
-  whole = record { held_is = set-here c s.next w.session; after_is = refl; out_is = set-here c (plus (w.out.taken c) s.words) w.out.taken; lost_kept = refl };
-}
-
-acted-at : (c : ℕ) (s : Said Session LastKnown) (w : NodeState) → CountsSessions w → PlainActAt c s w (after_said c s w)
-acted-at c s w counted = record { acts = acts-after c s w; around = around-after c s w counted }
 
 -- A piece.
 
@@ -236,7 +154,7 @@ came-is : (start : Option Session) (moment c : ℕ) (piece : List ℕ) (w : Node
 came-is None moment c piece w passed v came = (came.1, same-is w v came.0)
 came-is (Some start) moment c piece w passed v came = (fed-passed moment c start piece w passed v came, acted-is c (between_pieces (piece_said moment w.standing (Came start piece))) w v (fed-acts moment c start piece w passed v came))
 
-event-is : (x : What) (moment : ℕ) (piece : List ℕ) (w : NodeState) (passed : List LastKnown) (v : NodeState) → PlainTurnedBy x moment piece w passed v → (passed ≡ (plain_event x moment piece w).passed) × (v ≡ (plain_event x moment piece w).after)
+event-is : (x : What) (moment : ℕ) (piece : List ℕ) (w : NodeState) (passed : List LastKnown) (v : NodeState) → PlainActedBy x moment piece w passed v → (passed ≡ (plain_event x moment piece w).passed) × (v ≡ (plain_event x moment piece w).after)
 event-is (what.Opened c door) moment piece w passed v t = (t.1, acted-is c (said_making moment door (others_open c w) w.standing Plain) w v t.0)
 event-is (what.Bytes c len) moment piece w passed v t = came-is (w.session c) moment c piece w passed v t
 event-is (what.Ended c) moment piece w passed v t = (t.1, ended-is c w v t.0)
@@ -247,16 +165,16 @@ came-at : (start : Option Session) (moment c : ℕ) (piece : List ℕ) (w : Node
 came-at None moment c piece w counted = (same-at w, refl)
 came-at (Some start) moment c piece w counted = fed-at moment c start piece w counted
 
-event-at : (x : What) (moment : ℕ) (piece : List ℕ) (w : NodeState) → CountsSessions w → PlainTurnedBy x moment piece w (plain_event x moment piece w).passed (plain_event x moment piece w).after
+event-at : (x : What) (moment : ℕ) (piece : List ℕ) (w : NodeState) → CountsSessions w → PlainActedBy x moment piece w (plain_event x moment piece w).passed (plain_event x moment piece w).after
 event-at (what.Opened c door) moment piece w counted = (acted-at c (said_making moment door (others_open c w) w.standing Plain) w counted, refl)
 event-at (what.Bytes c len) moment piece w counted = came-at (w.session c) moment c piece w counted
 event-at (what.Ended c) moment piece w counted = (ended-at c w counted, refl)
 event-at what.Quiet moment piece w counted = (same-at w, refl)
 event-at what.Stop moment piece w counted = (same-at w, refl)
 
-came-turned : (start : Option Session) (moment c : ℕ) (piece : List ℕ) (w : NodeState) (passed : List LastKnown) (v : NodeState) → PlainCameTo start moment c piece w passed v → CameTo start moment c piece w passed v
-came-turned None moment c piece w passed v came = came
-came-turned (Some start) moment c piece w passed v fed = record {
+came-acted : (start : Option Session) (moment c : ℕ) (piece : List ℕ) (w : NodeState) (passed : List LastKnown) (v : NodeState) → PlainCameTo start moment c piece w passed v → CameTo start moment c piece w passed v
+came-acted None moment c piece w passed v came = came
+came-acted (Some start) moment c piece w passed v fed = record {
   held = fed.held;
   acts = fed.acts;
   before = fed.before;
@@ -267,12 +185,12 @@ came-turned (Some start) moment c piece w passed v fed = record {
   passed_is = fed.passed_is;
 }
 
-event-turned : (x : What) (moment : ℕ) (piece : List ℕ) (w : NodeState) (passed : List LastKnown) (v : NodeState) → PlainTurnedBy x moment piece w passed v → TurnedBy x moment piece w passed v
-event-turned (what.Opened c door) moment piece w passed v t = (record { acts = plain-acts (said_making moment door (others_open c w) w.standing) (outside_at c w.out) (v.session c) v.standing (outside_at c v.out) t.0.acts; around = t.0.around }, t.1)
-event-turned (what.Bytes c len) moment piece w passed v t = came-turned (w.session c) moment c piece w passed v t
-event-turned (what.Ended c) moment piece w passed v t = t
-event-turned what.Quiet moment piece w passed v t = t
-event-turned what.Stop moment piece w passed v t = t
+event-acted : (x : What) (moment : ℕ) (piece : List ℕ) (w : NodeState) (passed : List LastKnown) (v : NodeState) → PlainActedBy x moment piece w passed v → ActedBy x moment piece w passed v
+event-acted (what.Opened c door) moment piece w passed v t = (record { acts = plain-acts (said_making moment door (others_open c w) w.standing) (outside_at c w.out) (v.session c) v.standing (outside_at c v.out) t.0.acts; around = t.0.around }, t.1)
+event-acted (what.Bytes c len) moment piece w passed v t = came-acted (w.session c) moment c piece w passed v t
+event-acted (what.Ended c) moment piece w passed v t = t
+event-acted what.Quiet moment piece w passed v t = t
+event-acted what.Stop moment piece w passed v t = t
 
 -- Neither the disk nor a send fails.
 
@@ -289,41 +207,11 @@ event-unfailed what.Stop moment piece w = (refl, refl)
 
 -- The count of open sessions.
 
-below-grows : (n c : ℕ) (f : ℕ → Option Session) → n ≤ c → open_below n f ≤ open_below c f
-below-grows n zero f less = let none : n ≡ 0 = omega (arith, less) in let same : open_below n f ≡ open_below 0 f = ap (λ (m : ℕ). open_below m f) none in omega (arith, same)
-below-grows n (suc c) f less = by (λ low. below-grows n c f low) (this-or (suc c) n)
-  where
-    by : (n ≤ c → open_below n f ≤ open_below c f) → (n ≡ suc c) ⊎ (n ≢ suc c) → open_below n f ≤ open_below (suc c) f
-    by grows (inl e) = let same : open_below n f ≡ open_below (suc c) f = ap (λ (m : ℕ). open_below m f) e in omega (arith, same)
-    by grows (inr apart) = let rest = grows (omega (arith, less, apart)) in omega (arith, rest)
-
-less-or : (c n : ℕ) → (c < n) ⊎ (n ≤ c)
-less-or c zero = inr (omega arith)
-less-or zero (suc n) = inl (omega arith)
-less-or (suc c) (suc n) = elim (less-or c n) [ inl less ↦ inl (omega (arith, less)) | inr more ↦ inr (omega (arith, more)) ]
-
-counted-one : (c : ℕ) (w v : NodeState) → OthersKept c w.session v.session → v.count + one_if (w.session c) ≡ w.count + one_if (v.session c) → CountsSessions w → CountsSessions v
-counted-one c w v others count counted n = by (less-or c n)
-  where
-    by : (c < n) ⊎ (n ≤ c) → open_below n v.session ≤ v.count
-    by (inl less) =
-        let both = below-one n c w.session v.session less others in
-        let all : open_below n w.session ≤ w.count = counted n in
-        omega (arith, both, all, count)
-    by (inr more) =
-        let same = below-same n w.session v.session (λ d less. others d (λ (is : d ≡ c). (omega (arith, less, more, is)))) in
-        let grown = below-grows n c w.session more in
-        let all : open_below c w.session + one_if (w.session c) ≤ w.count = counted (suc c) in
-        omega (arith, same, grown, all, count)
-
-counted-same : (w v : NodeState) → v ≡ w → CountsSessions w → CountsSessions v
-counted-same w v same counted = subst (λ (x : NodeState). CountsSessions x) (sym same) counted
-
 counted-came : (start : Option Session) (moment c : ℕ) (piece : List ℕ) (w : NodeState) (passed : List LastKnown) (v : NodeState) → PlainCameTo start moment c piece w passed v → CountsSessions w → CountsSessions v
 counted-came None moment c piece w passed v came counted = counted-same w v (same-is w v came.0) counted
 counted-came (Some start) moment c piece w passed v fed counted = counted-one c w v fed.around.sessions fed.around.count counted
 
-counted-event : (x : What) (moment : ℕ) (piece : List ℕ) (w : NodeState) (passed : List LastKnown) (v : NodeState) → PlainTurnedBy x moment piece w passed v → CountsSessions w → CountsSessions v
+counted-event : (x : What) (moment : ℕ) (piece : List ℕ) (w : NodeState) (passed : List LastKnown) (v : NodeState) → PlainActedBy x moment piece w passed v → CountsSessions w → CountsSessions v
 counted-event (what.Opened c door) moment piece w passed v t counted = counted-one c w v t.0.around.sessions t.0.around.count counted
 counted-event (what.Bytes c len) moment piece w passed v t counted = counted-came (w.session c) moment c piece w passed v t counted
 counted-event (what.Ended c) moment piece w passed v t counted =
@@ -344,41 +232,58 @@ none-counted w none n = let zero : open_below n w.session ≡ 0 = count n in ome
         let here : one_if (w.session n) ≡ 0 = ap (λ (x : Option Session). one_if x) (none n) in
         omega (arith, rest, here)
 
+-- One event with its updates: the acts' world is that of the function, and so are the updates from there.
+turn-is : (e : Arrival) (w : NodeState) (t : Turn) → PlainTurned e w t → t ≡ plain_turn e w
+turn-is e w t turned =
+    let stops : Bool = is_stop e.0.what in
+    let acted = event-is e.0.what e.0.moment e.1 w t.passed t.between turned.0 in
+    let updated = updated-is stops t.between t.reopened t.after turned.1 in
+    let reopened : t.reopened ≡ (plain_turn e w).reopened = updated.0 ∙ ap (λ (x : NodeState). (plain_updated stops x).passed) acted.1 in
+    let after : t.after ≡ (plain_turn e w).after = updated.1 ∙ ap (λ (x : NodeState). (plain_updated stops x).after) acted.1 in
+    λ i. record { passed = acted.0 i; between = acted.1 i; reopened = reopened i; after = after i }
+
 -- Events in order.
 
 served-made : (es : List Arrival) (w : NodeState) → CountsSessions w → PlainServed es w (plain_turns es w) (last_world w (plain_turns es w))
 served-made [] w counted = refl
 served-made (e ∷ es) w counted =
-    let turned = event-at e.0.what e.0.moment e.1 w counted in
     let t : Turn = plain_turn e w in
-    (turned, served-made es t.after (counted-event e.0.what e.0.moment e.1 w t.passed t.after turned counted))
+    let stops : Bool = is_stop e.0.what in
+    let acted : PlainActedBy e.0.what e.0.moment e.1 w t.passed t.between = event-at e.0.what e.0.moment e.1 w counted in
+    let between : CountsSessions t.between = counted-event e.0.what e.0.moment e.1 w t.passed t.between acted counted in
+    let updated : PlainUpdatedUnless stops t.between t.reopened t.after = updated-at stops t.between between in
+    let after : CountsSessions t.after = updated-counted stops t.between t.reopened t.after (updated-by stops t.between t.reopened t.after updated) between in
+    ((acted, updated), served-made es t.after after)
 
 served-only : (es : List Arrival) (w : NodeState) (ts : List Turn) (v : NodeState) → PlainServed es w ts v → (ts ≡ plain_turns es w) × (v ≡ last_world w ts)
 served-only [] w [] v run = (refl, run)
 served-only [] w (t ∷ ts) v never = absurd never
 served-only (e ∷ es) w [] v never = absurd never
 served-only (e ∷ es) w (t ∷ ts) v run =
-    let one = event-is e.0.what e.0.moment e.1 w t.passed t.after run.0 in
+    let first : t ≡ plain_turn e w = turn-is e w t run.0 in
     let later = served-only es t.after ts v run.1 in
-    let first : t ≡ plain_turn e w = λ i. record { passed = one.0 i; after = one.1 i } in
-    let rest : ts ≡ plain_turns es (plain_turn e w).after = later.0 ∙ ap (plain_turns es) one.1 in
+    let rest : ts ≡ plain_turns es (plain_turn e w).after = later.0 ∙ ap (λ (u : Turn). plain_turns es u.after) first in
     (ap (λ (u : Turn). u ∷ ts) first ∙ ap (λ (us : List Turn). plain_turn e w ∷ us) rest, later.1)
 
 served-by : (es : List Arrival) (w : NodeState) (ts : List Turn) (v : NodeState) → PlainServed es w ts v → Served es w ts v
 served-by [] w [] v run = run
 served-by [] w (t ∷ ts) v never = absurd never
 served-by (e ∷ es) w [] v never = absurd never
-served-by (e ∷ es) w (t ∷ ts) v run = (event-turned e.0.what e.0.moment e.1 w t.passed t.after run.0, served-by es t.after ts v run.1)
+served-by (e ∷ es) w (t ∷ ts) v run = (
+  (event-acted e.0.what e.0.moment e.1 w t.passed t.between run.0.0, updated-by (is_stop e.0.what) t.between t.reopened t.after run.0.1),
+  served-by es t.after ts v run.1,
+)
 
 served-unfailed : (es : List Arrival) (w : NodeState) (ts : List Turn) (v : NodeState) → PlainServed es w ts v → (v.out.disk ≡ w.out.disk) × (v.out.lost ≡ w.out.lost)
 served-unfailed [] w [] v run = (ap (λ (x : NodeState). x.out.disk) run, ap (λ (x : NodeState). x.out.lost) run)
 served-unfailed [] w (t ∷ ts) v never = absurd never
 served-unfailed (e ∷ es) w [] v never = absurd never
 served-unfailed (e ∷ es) w (t ∷ ts) v run =
-    let one = event-is e.0.what e.0.moment e.1 w t.passed t.after run.0 in
-    let kept = event-unfailed e.0.what e.0.moment e.1 w in
+    let is : t ≡ plain_turn e w = turn-is e w t run.0 in
+    let acts = event-unfailed e.0.what e.0.moment e.1 w in
+    let updates = updated-unfailed (is_stop e.0.what) (plain_turn e w).between in
     let later = served-unfailed es t.after ts v run.1 in
-    (later.0 ∙ ap (λ (x : NodeState). x.out.disk) one.1 ∙ kept.0, later.1 ∙ ap (λ (x : NodeState). x.out.lost) one.1 ∙ kept.1)
+    (later.0 ∙ ap (λ (u : Turn). u.after.out.disk) is ∙ updates.0 ∙ acts.0, later.1 ∙ ap (λ (u : Turn). u.after.out.lost) is ∙ updates.1 ∙ acts.1)
 
 pub plain-laws : PlainLaws
 plain-laws = record { made = served-made; only = served-only; served = served-by; unfailed = served-unfailed }

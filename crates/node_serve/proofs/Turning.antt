@@ -7,7 +7,6 @@ use Rattle.edge_io.specs.Phrases.{Says}
 use Rattle.edge_io.specs.declared.sink.SinkFault.{SinkFault}
 use Rattle.edge_io.specs.Scripts.{Arrival}
 use Rattle.edge_io.specs.declared.events.Door.{Door}
-use Rattle.edge_io.specs.declared.events.Door.TheVariants as door
 use Rattle.edge_io.specs.declared.events.What.TheVariants as what
 use Rattle.line_door.specs.Acts.{ConnectionState, Said, Departure, Plain, Memory, Disk, Newer, SaidWhole, SaidLost, SaidShort, StopsShort, Sent, Acts, held_if}
 use Rattle.line_door.specs.Course.{talk}
@@ -15,17 +14,17 @@ use Rattle.line_door.specs.Making.{says, closes}
 use Rattle.line_door.specs.Over.{held_over, said_over}
 use Rattle.line_door.proofs.Acting.{acts-closing, acts-silent}
 use Rattle.line_door.proofs.Lifting.{acts-over}
-use Rattle.arch_model.specs.Archives.{Archive}
 use Rattle.arch_model.specs.Standing.{LastKnown}
 use Rattle.arch_model.specs.Keeping.{CrashesLeaveOnly, MatchesKnown, Keeper}
-use Rattle.keep_course.specs.Courses.{afters, archives_of}
-use Rattle.keep_course.proofs.Courses.{all-own, kept-left}
-use Rattle.node_serve.specs.Doors.{Came, said, is_asked, reopens, session_limit, busy_words, memory_words, greets, made, unmade, said_making}
-use Rattle.node_serve.specs.Nodes.{OpenSessions, serving, session_of, places_of, world_of, Refused, MakesSession, SessionEnds, GotSession, IsPut, PieceKept, CameKept, TurnKept, ActsAlong, FedFrom, TurnsTo, TurnsStill, CameAnyway}
-use Rattle.node_serve.specs.Turns.{FedAt, CameTo, Turned}
+use Rattle.keep_course.specs.Courses.{afters}
+use Rattle.keep_course.proofs.Courses.{kept-left}
+use Rattle.node_serve.specs.Doors.{Came, doors_at, session_limit, busy_words, memory_words, opening_at, greets, made, unmade, said_making}
+use Rattle.node_serve.specs.Nodes.{OpenSessions, serving, session_of, places_of, world_of, Refused, MakesSession, SessionEnds, GotSession, IsPut, PieceKept, CameKept, TurnKept, ActsAlong, FedFrom, ActsTo, ActsStill, CameAnyway}
+use Rattle.node_serve.specs.Turns.{FedAt, CameTo, Acted}
 use Rattle.edge_io.specs.declared.host.Host.{Ghosts as Host}
 use Rattle.node_serve.specs.World.{HostState, at_host, Around, Same, EndedAt, others_open, outside_at, one_if, closed_if, closed_at_if}
 use Rattle.node_serve.specs.declared.session.Session.{Session}
+use Rattle.node_serve.specs.declared.updates.Idling.{Idling}
 
 -- How many others are open, where a connection has no session.
 others-none : (c : ℕ) (s : LastKnown) (p : OpenSessions) (o : HostState) → p.session c ≡ None → others_open c (world_of s p o) ≡ p.count
@@ -90,11 +89,6 @@ pub makes-starved : (moment : ℕ) (at : Door) (c : ℕ) (p : OpenSessions) (i j
 makes-starved moment at c p i j none few refused = refusing moment at (memory_words moment at) c p i j none refused (λ s.
     acts-closing (said_making moment at p.count s) Memory (closes s (memory_words moment at)) (outside_at c i) (outside_at c j) s refused.sent (unmade-few moment at p.count s few) refl refused.disk (omega (arith, refused.disk)) refused.said refl)
 
--- And a door that isn't built.
-pub makes-unbuilt : (moment : ℕ) (at : Door) (c : ℕ) (p : OpenSessions) (i j : HostState) → ((s : LastKnown) → greets at s ≡ closes s (busy_words moment at)) → p.session c ≡ None → p.count < session_limit → Refused c (busy_words moment at) i j → MakesSession moment at c p i p j
-makes-unbuilt moment at c p i j unbuilt none few refused = refusing moment at (busy_words moment at) c p i j none refused (λ s.
-    acts-closing (said_making moment at p.count s) Plain (closes s (busy_words moment at)) (outside_at c i) (outside_at c j) s refused.sent (made-few moment at p.count s few ∙ unbuilt s) refl refused.disk (omega (arith, refused.disk)) refused.said refl)
-
 -- All around a connection that got a session.
 around-placed : (c : ℕ) (start : Session) (s : LastKnown) (p q : OpenSessions) (i j : HostState) → p.session c ≡ None → q.session c ≡ Some start → OthersKept c p.session q.session → q.count ≡ p.count + 1 → OthersKept c i.taken j.taken → ((d : ℕ) → j.closings d ≡ i.closings d) → ((d : ℕ) → j.closed_at d ≡ i.closed_at d)
     → Around c (world_of s p i) (world_of s q j)
@@ -110,14 +104,6 @@ around-placed c start s p q i j none some others count taken closings at_kept =
       closed_at = at_kept c ∙ sym (ap (λ (x : Option Session). closed_at_if x (j.taken c) (i.closed_at c)) some);
       closed_at_others = λ d other. at_kept d;
     }
-
--- A door that doesn't greet makes its session without a word.
-pub makes-silent : (moment : ℕ) (at : Door) (start : Session) (c : ℕ) (p q : OpenSessions) (i : HostState) → ((s : LastKnown) → greets at s ≡ says s start []) → GotSession c p q → q.session c ≡ Some start → p.count < session_limit → MakesSession moment at c p i q i
-makes-silent moment at start c p q i silent placed some few = λ s. record {
-  acts = subst (λ (n : ℕ). Acts (said_making moment at n s) (outside_at c i) (q.session c) s (outside_at c i)) (sym (others-none c s p i placed.none))
-      (acts-silent (said_making moment at p.count s) (says s start []) (outside_at c i) (outside_at c i) (q.session c) s (made-few moment at p.count s few ∙ silent s) refl refl refl refl some refl);
-  around = around-placed c start s p q i i placed.none some placed.others placed.count (λ d other. refl) (λ d. refl) (λ d. refl);
-}
 
 -- An act that says the same in each way is one by the rules, where the disk's count stayed.
 acts-any : {H A : Type 0} (words other : Departure → Said H A) (x : Said H A) (i : ConnectionState) (held : Option H) (a : A) (j : ConnectionState) → ((way : Departure) → words way ≡ x) → x.streamed ≡ false → other Plain ≡ x → j.disk ≡ i.disk → Acts words i held a j → Acts other i held a j
@@ -204,31 +190,27 @@ makes-unchanged moment at c p old new i j same makes = subst (λ (sessions : Lis
 pub ended-world : (c : ℕ) (p q : OpenSessions) (s : LastKnown) (o : HostState) → SessionEnds c p q → EndedAt c (world_of s p o) (world_of s q o)
 ended-world c p q s o ends = record { standing = refl; gone = ends.gone; sessions = ends.sessions; count = ends.count; out = refl }
 
--- What an event changes, whatever the keeper holds.
-module _ {K : Type 0} (arrival : Arrival) (c : ℕ) (old new : K) (p q : List (ℕ × Session)) (i j : HostState) where
+-- What the acts of an event change, whatever the keeper holds, and whatever is noted of sessions that idle.
+module _ {K : Type 0} (arrival : Arrival) (c : ℕ) (old new : K) (p q : List (ℕ × Session)) (m n : Idling) (i j : HostState) where
   -- No session took a piece.
-  pub came-unfed : session_of p c ≡ None → TurnsStill arrival (serving old p) i (serving new q) j → CameAnyway (session_of p c) c arrival (serving old p) i (serving new q) j
-  came-unfed none still = subst (λ (x : Option Session). CameAnyway x c arrival (serving old p) i (serving new q) j) (sym none) still
+  pub came-unfed : session_of p c ≡ None → ActsStill arrival (serving old p m) i (serving new q n) j → CameAnyway (session_of p c) c arrival (serving old p m) i (serving new q n) j
+  came-unfed none still = subst (λ (x : Option Session). CameAnyway x c arrival (serving old p m) i (serving new q n) j) (sym none) still
 
   -- One took it.
-  pub came-fed : (start : Session) → session_of p c ≡ Some start → ((s t : LastKnown) → Around c (world_of s (places_of p) i) (world_of t (places_of q) j)) → CameAnyway (session_of p c) c arrival (serving old p) i (serving new q) j
-  came-fed start here around = subst (λ (x : Option Session). CameAnyway x c arrival (serving old p) i (serving new q) j) (sym here) around
+  pub came-fed : (start : Session) → session_of p c ≡ Some start → ((s t : LastKnown) → Around c (world_of s (places_of p) i) (world_of t (places_of q) j)) → CameAnyway (session_of p c) c arrival (serving old p m) i (serving new q n) j
+  came-fed start here around = subst (λ (x : Option Session). CameAnyway x c arrival (serving old p m) i (serving new q n) j) (sym here) around
 
--- Turns.
+-- The acts of an event.
 module _ {K : Type 0} (g : Keeper K) where
-  pub crash-left : (old new : K) (s : LastKnown) (passed : List LastKnown) → MatchesKnown g old s → CrashesLeaveOnly g.leaves old new (s ∷ passed) → g.leaves old new (archives_of (s ∷ passed))
-  crash-left old new s passed fits passes = let own = all-own (s ∷ passed) in passes old (archives_of (s ∷ passed)) own (fits.left (archives_of (s ∷ passed)) own.0)
-
-  -- A turn that leaves the keeper.
-  pub turns-still : (arrival : Arrival) (s : LastKnown) (k : K) (p q : List (ℕ × Session)) (i j : HostState) → MatchesKnown g k s → Turned arrival (world_of s (places_of p) i) [] (world_of s (places_of q) j) → TurnKept (ActsAlong g) arrival k (world_of s (places_of p) i) [] k (world_of s (places_of q) j) → TurnsTo g arrival s (serving k p) i (serving k q) j
-  turns-still arrival s k p q i j fits turned still = record {
+  -- Acts that leave the keeper.
+  pub acts-still : (arrival : Arrival) (s : LastKnown) (k : K) (p q : List (ℕ × Session)) (m n : Idling) (i j : HostState) → MatchesKnown g k s → Acted arrival (world_of s (places_of p) i) [] (world_of s (places_of q) j) → TurnKept (ActsAlong g) arrival k (world_of s (places_of p) i) [] k (world_of s (places_of q) j) → ActsTo g arrival s (serving k p m) i (serving k q n) j
+  acts-still arrival s k p q m n i j fits acted still = record {
     after = s;
     fits = fits;
     passed = [];
-    turned = turned;
+    acted = acted;
     kept = still;
     passes = λ start may has since. since;
-    crash = crash-left k k s [] fits (λ start may has since. since);
   }
 
   -- Nothing happened.
@@ -236,10 +218,10 @@ module _ {K : Type 0} (g : Keeper K) where
   same-world s p i = record { standing = refl; sessions = λ c. refl; count = refl; out = refl }
 
   -- A session took a piece.
-  pub turns-fed : (moment c len : ℕ) (piece : List ℕ) (start : Session) (s : LastKnown) (old new : K) (p q : List (ℕ × Session)) (i j : HostState) (goes_on : Bool) (left : Session) → session_of p c ≡ Some start → session_of q c ≡ held_if goes_on left
-      → FedFrom g moment (Came start piece) s old (outside_at c i) goes_on left new (outside_at c j) → ((t : LastKnown) → Around c (world_of s (places_of p) i) (world_of t (places_of q) j)) → MatchesKnown g old s
-      → TurnsTo g (record { moment = moment; what = what.Bytes c len }, piece) s (serving old p) i (serving new q) j
-  turns-fed moment c len piece start s old new p q i j goes_on left here kept fed around fits =
+  pub acts-fed : (moment c len : ℕ) (piece : List ℕ) (start : Session) (s : LastKnown) (old new : K) (p q : List (ℕ × Session)) (m n : Idling) (i j : HostState) (goes_on : Bool) (left : Session) → session_of p c ≡ Some start → session_of q c ≡ held_if goes_on left
+      → FedFrom g moment (Came start piece) s old (outside_at c i) goes_on left new (outside_at c j) → ((t : LastKnown) → Around c (world_of s (places_of p) i) (world_of t (places_of q) j))
+      → ActsTo g (record { moment = moment; what = what.Bytes c len }, piece) s (serving old p m) i (serving new q n) j
+  acts-fed moment c len piece start s old new p q m n i j goes_on left here kept fed around =
       let passed = afters (fed.course.acts ++ talk fed.held fed.after (outside_at c j) ∷ []) in
       let at : FedAt moment c start piece (world_of s (places_of p) i) passed (world_of fed.after (places_of q) j) = record {
         held = fed.held;
@@ -257,15 +239,14 @@ module _ {K : Type 0} (g : Keeper K) where
         course = fed.course;
         passed_is = refl;
       } in
-      let within : CrashesLeaveOnly g.leaves old new (s ∷ passed) = kept-left g (said moment) is_asked reopens old new (talk (Some (Came start piece)) s (outside_at c i)) fed.course.states (fed.course.acts ++ talk fed.held fed.after (outside_at c j) ∷ []) fed.course.kept in
+      let within : CrashesLeaveOnly g.leaves old new (s ∷ passed) = kept-left g (doors_at moment) old new (talk (Some (Came start piece)) s (outside_at c i)) fed.course.states (fed.course.acts ++ talk fed.held fed.after (outside_at c j) ∷ []) fed.course.kept in
       record {
         after = fed.after;
         fits = fed.fits;
         passed = passed;
-        turned = subst (λ (x : Option Session). CameTo x moment c piece (world_of s (places_of p) i) passed (world_of fed.after (places_of q) j)) (sym here) at;
+        acted = subst (λ (x : Option Session). CameTo x moment c piece (world_of s (places_of p) i) passed (world_of fed.after (places_of q) j)) (sym here) at;
         kept = subst (λ (x : Option Session). CameKept (ActsAlong g) x moment c piece old (world_of s (places_of p) i) passed new (world_of fed.after (places_of q) j)) (sym here) piece_kept;
         passes = within;
-        crash = crash-left old new s passed fits within;
       }
 
 -- All around a session that goes on.
@@ -307,19 +288,20 @@ held-kind into true left = refl
 held-kind into false left = refl
 
 -- What a door says as its greeting, over the sessions of all doors.
-pub greets-over : {H : Type 0} (at : Door) (into : H → Session) (s : LastKnown) (greeting : Departure → Said H Archive) (goes_on : Bool) (left : H) (i j : ConnectionState) → ((way : Departure) → greets at s ≡ said_over (λ (x : Archive). s) into (greeting way))
-    → Acts greeting i (held_if goes_on left) s.archive j → Acts (λ (way : Departure). greets at s) i (held_if goes_on (into left)) s j
-greets-over at into s greeting goes_on left i j same acts =
+pub greets-over : {H A : Type 0} (at : Door) (into : H → Session) (s : LastKnown) (a : A) (greeting : Departure → Said H A) (goes_on : Bool) (left : H) (i j : ConnectionState) → ((way : Departure) → greets at s ≡ said_over (λ (x : A). s) into (greeting way))
+    → Acts greeting i (held_if goes_on left) a j → Acts (λ (way : Departure). greets at s) i (held_if goes_on (into left)) s j
+greets-over {H} {A} at into s a greeting goes_on left i j same acts =
     subst (λ (o : Option Session). Acts (λ (way : Departure). greets at s) i o s j) (held-kind into goes_on left)
-    (acts-over (λ (x : Archive). s) into greeting (λ (way : Departure). greets at s) i (held_if goes_on left) s.archive j same acts)
+    (acts-over (λ (x : A). s) into greeting (λ (way : Departure). greets at s) i (held_if goes_on left) a j same acts)
 
 -- No greeting is streamed.
 pub greets-whole : (at : Door) (s : LastKnown) → (greets at s).streamed ≡ false
-greets-whole door.Control s = refl
-greets-whole door.Http s = refl
-greets-whole door.Nntp s = refl
-greets-whole door.Pop3 s = refl
-greets-whole door.Imap s = refl
+greets-whole at s = refl
+
+-- A door that opens its session without a word.
+pub greets-silent : (at : Door) (start : Session) (s : LastKnown) (i : ConnectionState) → opening_at at ≡ (start, []) → Acts (λ (way : Departure). greets at s) i (Some start) s i
+greets-silent at start s i silent =
+    acts-silent (λ (way : Departure). greets at s) (says s start []) i i (Some start) s (ap (λ (o : Session × List ℕ). says s o.0 o.1) silent) refl refl refl refl refl refl
 
 -- An act at the sink of a connection is one at its host.
 pub act-at_host : {H : Type 0} (g : Host H) (words : Departure → Said Session LastKnown) (c n : ℕ) (i : ConnectionState) (held : Option Session) (s : LastKnown) (disk : ℕ) (host now : H) → n ≡ c → now ≡ host → Acts words i held s (outside_at n (at_host g host disk)) → Acts words i held s (outside_at c (at_host g now disk))

@@ -1,11 +1,15 @@
 -- The laws of events that are served: the count of open sessions, and what they do by the rules.
-use Rattle.std.specs.Prelude.{◌≡◌, ◌<◌, ℕ, List, [], ◌∷◌}
+use Rattle.std.specs.Prelude.{◌≡◌, ◌≤◌, ◌<◌, ℕ, Bool, List, [], ◌∷◌, false}
 use Rattle.edge_io.specs.Scripts.{Arrival}
 use Rattle.edge_io.specs.declared.events.What.{What}
 use Rattle.edge_io.specs.declared.events.What.TheVariants as what
 use Rattle.node_serve.specs.Plain.{CountsSessions, PlainServed, plain_turns, last_world}
-use Rattle.node_serve.specs.Turns.{Turn, Served}
+use Rattle.node_serve.specs.Turns.{Turn, Acted, Served}
+use Rattle.node_serve.specs.Suiting.{ClientsSuit}
+use Rattle.node_serve.specs.Updates.{idles_if, connection_limit, EachBelow, UpdateAt, UpdatedUnless, AllTold}
 use Rattle.node_serve.specs.World.{NodeState, open_below}
+use Rattle.arch_base.specs.Moments.{last_moment}
+use Rattle.arch_model.specs.Standing.{LastKnown}
 
 -- The connection of an event has a number below the given one.
 abbrev pub HasConnectionBelow : ℕ → What → Type 0
@@ -20,12 +24,31 @@ abbrev pub AreBelow : ℕ → List Arrival → Type 0
 AreBelow n [] = Unit {0}
 AreBelow n (e ∷ es) = HasConnectionBelow n e.0.what × AreBelow n es
 
+-- No session of a connection with a number from the given one on idles.
+abbrev pub NoneIdlesFrom : ℕ → NodeState → Type 0
+NoneIdlesFrom n w = (c : ℕ) → n ≤ c → idles_if (w.session c) ≡ false
+
 -- While events are served, the count of a world stays the number of connections that have an open
 -- session.
 abbrev pub CountsOpen : Type 0
 CountsOpen = (n : ℕ) (es : List Arrival) (w : NodeState) (ts : List Turn) (v : NodeState)
-    → AreBelow n es → Served es w ts v → w.count ≡ open_below n w.session
+    → AreBelow n es → NoneIdlesFrom n w → Served es w ts v → w.count ≡ open_below n w.session
     → v.count ≡ open_below n v.session
+
+-- The acts of an event, and updates, leave an archive that suits what clients know.
+pub record GoOnSuiting : Type 0 where
+  pub acts : (e : Arrival) (w : NodeState) (passed : List LastKnown) (v : NodeState)
+      → e.0.moment ≤ last_moment → Acted e w passed v → ClientsSuit w → ClientsSuit v
+  pub updates : (stops : Bool) (w : NodeState) (reopened : List LastKnown) (v : NodeState)
+      → UpdatedUnless stops w reopened v → ClientsSuit w → ClientsSuit v
+
+-- An update after an update says nothing: where no session that idles has more to be told, to do nothing is
+-- to give each its update.
+pub record UpdatesOnce : Type 0 where
+  -- After updates none has more to be told.
+  pub told : (w v : NodeState) → EachBelow UpdateAt connection_limit w v → AllTold v
+  -- Then they may be left out.
+  pub nothing : (w : NodeState) → AllTold w → EachBelow UpdateAt connection_limit w w
 
 -- The plain function of events is one of the ways in which they may be served: the one in which each
 -- act goes by the rules and all its words are taken.

@@ -1,6 +1,8 @@
 pub mod Doors
 pub mod World
+pub mod Updates
 pub mod Turns
+pub mod Suiting
 pub mod Plain
 pub mod Ends
 pub mod Nodes

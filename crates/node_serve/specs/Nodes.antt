@@ -1,5 +1,5 @@
 -- What a node's values mean, and what its calls do.
-use Rattle.std.specs.Prelude.{◌≡◌, ◌+◌, ℕ, Bool, true, false, List, [], ◌∷◌, ◌++◌, length, Option, Some, None, Result}
+use Rattle.std.specs.Prelude.{◌≡◌, ◌≤◌, ◌<◌, ◌⊎◌, ◌+◌, ℕ, Bool, true, false, List, [], ◌∷◌, ◌++◌, length, Option, Some, None, Result}
 use Rattle.std.specs.Ordering.{nat_cmp}
 use Rattle.std.specs.BTreeMap.{is_at}
 use Rattle.std.specs.Map.{lookup}
@@ -12,24 +12,33 @@ use Rattle.edge_io.specs.declared.events.Door.{Door}
 use Rattle.edge_io.specs.declared.events.What.{What}
 use Rattle.edge_io.specs.declared.events.What.TheVariants as what
 use Rattle.edge_io.specs.declared.sink.SinkFault.{SinkFault}
-use Rattle.line_door.specs.Acts.{ConnectionState, Departure, held_if}
+use Rattle.line_door.specs.Acts.{ConnectionState, Departure, outside, held_if}
 use Rattle.line_door.specs.Costs.{lines_cost}
 use Rattle.line_door.specs.Course.{SessionState, talk}
 use Rattle.keep_course.specs.Answering as answering
+use Rattle.keep_course.specs.Answering.{ReopenedAs}
 use Rattle.keep_course.specs.Courses.{SessionRun, KeeperActs, KeeperRun, KeptAlong, afters, archives_of}
 use Rattle.control_door.specs.Counting.{Meets, asks_for}
 use Rattle.nntp_reader.specs.Counting.{ReadsLines}
 use Rattle.pop3_reader.specs.Door.{line_limit}
 use Rattle.pop3_reader.specs.Replies.{line_texts}
 use Rattle.http_front.specs.Sessions.{ReadsBytes, ReadsNothing}
-use Rattle.arch_model.specs.Keeping.{CrashesLeaveOnly, MatchesKnown, Keeper}
+use Rattle.arch_model.specs.Archives.{Archive}
+use Rattle.arch_model.specs.Keeping.{CrashesLeaveOnly, MatchesKnown, KeeperMoves, Keeper}
 use Rattle.arch_model.specs.Shelves.{ReadsUpTo}
-use Rattle.arch_model.specs.Standing.{LastKnown}
-use Rattle.node_serve.specs.Doors.{SessionAtWork, Came, rest_if, said, is_asked, reopens, with_piece, said_making}
+use Rattle.arch_model.specs.Standing.{LastKnown, IsFound}
+use Rattle.imap_framer.specs.Doors.{framed_more}
+use Rattle.imap_session.specs.Counting.{texts_ahead}
+use Rattle.imap_states.specs.States.{SuitsClient}
+use Rattle.node_serve.specs.Doors.{SessionAtWork, Came, rest_if, said, is_asked, doors_at, with_piece, said_making}
 use Rattle.node_serve.specs.Ends.{ServingEnds, given_after, before_all, is_stop}
-use Rattle.node_serve.specs.Turns.{Turn, Turned, Served, passed_in, outputs_of, outputs_before}
-use Rattle.node_serve.specs.World.{HostState, NodeState, ActAt, Around, outside_at, others_open, one_if}
+use Rattle.node_serve.specs.Suiting.{SessionSuits, ClientsSuit, NotedIs}
+use Rattle.node_serve.specs.Turns.{Turn, Acted, Served, passed_in, outputs_of, outputs_before}
+use Rattle.node_serve.specs.Updates.{connection_limit, idles_if, any_idles, EachBelow, EachIf, IfIdles, UpdatedUnless, reopening, with_keeper}
+use Rattle.node_serve.specs.World.{HostState, NodeState, ActAt, Around, outside_at, others_open, one_if, with_disk}
 use Rattle.node_serve.specs.declared.session.Session.{Session}
+use Rattle.node_serve.specs.declared.updates.Idling.{Idling}
+use Rattle.node_serve.specs.declared.updates.Idling.TheVariants.{Nobody, Told, Untold}
 use Rattle.node_serve.specs.declared.session.Session.TheVariants as kind
 use Rattle.node_serve.specs.declared.serving.ServeEnd.{ServeEnd}
 use Rattle.node_serve.specs.declared.serving.Taken.{Taken}
@@ -48,14 +57,15 @@ session_of sessions c = lookup (is_at (nat_cmp c)) sessions
 abbrev pub places_of : List (ℕ × Session) → OpenSessions
 places_of sessions = record { session = session_of sessions; count = length sessions }
 
--- A keeper, and the open sessions over it, each with its connection.
+-- A keeper, the open sessions over it, each with its connection, and what is noted of those that idle.
 pub record Serving (K : Type 0) : Type 0 where
   pub keep : K
   pub sessions : List (ℕ × Session)
+  pub idling : Idling
 
--- The node of these two parts.
-abbrev pub serving : {K : Type 0} → K → List (ℕ × Session) → Serving K
-serving keep sessions = record { keep = keep; sessions = sessions }
+-- The node of these three parts.
+abbrev pub serving : {K : Type 0} → K → List (ℕ × Session) → Idling → Serving K
+serving keep sessions idling = record { keep = keep; sessions = sessions; idling = idling }
 
 -- The open sessions of a node.
 abbrev pub places_in : {K : Type 0} → Serving K → OpenSessions
@@ -117,11 +127,11 @@ pub record TookNone {K : Type 0} (old : Serving K) (i : HostState) (new : Servin
   pub given_kept : given' ≡ given
   pub left_kept : left' ≡ left
 
--- An event was taken to its end without the keeper, which stays: so it was over any archive.
-pub record TurnsStill {K : Type 0} (arrival : Arrival) (old : Serving K) (i : HostState)
+-- The acts of an event went without the keeper, which stays: so they did over any archive.
+pub record ActsStill {K : Type 0} (arrival : Arrival) (old : Serving K) (i : HostState)
     (new : Serving K) (j : HostState) : Type 0 where
   pub kept : new.keep ≡ old.keep
-  pub turned : (s : LastKnown) → Turned arrival (world_of s (places_in old) i) []
+  pub acted : (s : LastKnown) → Acted arrival (world_of s (places_in old) i) []
       (world_of s (places_in new) j)
 
 -- A piece came to a connection, and whatever the keeper answered, that is all that changed: other
@@ -129,20 +139,51 @@ pub record TurnsStill {K : Type 0} (arrival : Arrival) (old : Serving K) (i : Ho
 -- sessions is right. Without a session the piece is skipped.
 abbrev pub CameAnyway : {K : Type 0} → Option Session → ℕ → Arrival → Serving K → HostState → Serving K
     → HostState → Type 0
-CameAnyway None c arrival old i new j = TurnsStill arrival old i new j
+CameAnyway None c arrival old i new j = ActsStill arrival old i new j
 CameAnyway (Some start) c arrival old i new j =
     (s t : LastKnown) → Around c (world_of s (places_in old) i) (world_of t (places_in new) j)
 
--- What an event changes, by what it says happened. This asks nothing of the keeper: it is so where no
--- archive is held, too, as after a file was found damaged.
+-- What the acts of an event change, by what it says happened. This asks nothing of the keeper: it is so
+-- where no archive is held, too, as after a file was found damaged.
 abbrev pub AnywayBy : {K : Type 0} → What → Arrival → Serving K → HostState → Serving K → HostState → Type 0
 AnywayBy (what.Bytes c len) arrival old i new j =
     CameAnyway ((places_in old).session c) c arrival old i new j
-AnywayBy other arrival old i new j = TurnsStill arrival old i new j
+AnywayBy other arrival old i new j = ActsStill arrival old i new j
 
 -- The same of an event.
-abbrev pub TurnsAnyway : {K : Type 0} → Arrival → Serving K → HostState → Serving K → HostState → Type 0
-TurnsAnyway arrival old i new j = AnywayBy arrival.0.what arrival old i new j
+abbrev pub ActsAnyway : {K : Type 0} → Arrival → Serving K → HostState → Serving K → HostState → Type 0
+ActsAnyway arrival old i new j = AnywayBy arrival.0.what arrival old i new j
+
+-- Whatever the keeper answers, the update of a session that idles changes no other connection, which is
+-- closed exactly where it has no session left. One that doesn't idle is left alone.
+abbrev pub AroundAt : ℕ → NodeState → NodeState → Type 0
+AroundAt c w v = IfIdles (idles_if (w.session c)) (Around c w v) w v
+
+-- So it is of the updates after an event, whatever stands. After a stop nothing changes.
+abbrev pub UpdatesAnyway : Bool → OpenSessions → HostState → OpenSessions → HostState → Type 0
+UpdatesAnyway true p i q j = (s : LastKnown) (disk : ℕ)
+    → world_of s q (with_disk disk j) ≡ world_of s p (with_disk disk i)
+UpdatesAnyway false p i q j = (s : LastKnown) (disk : ℕ) → EachBelow AroundAt connection_limit
+    (world_of s p (with_disk disk i)) (world_of s q (with_disk disk j))
+
+-- What is noted of sessions that idle after the acts of what happened, by what was noted before them and the
+-- sessions after them: a note stays where the session of the connection doesn't idle, but that a piece may
+-- have changed what others are to be told.
+abbrev pub NotesAfter : What → Idling → OpenSessions → Idling → Type 0
+NotesAfter (what.Opened c door) before p after =
+    ((after ≡ before) × (idles_if (p.session c) ≡ false)) ⊎ (after ≡ Untold)
+NotesAfter (what.Bytes c len) before p after =
+    ((after ≡ Nobody) × (before ≡ Nobody) × (idles_if (p.session c) ≡ false)) ⊎ (after ≡ Untold)
+NotesAfter (what.Ended c) before p after =
+    ((after ≡ before) × (idles_if (p.session c) ≡ false)) ⊎ (after ≡ Untold)
+NotesAfter what.Quiet before p after = after ≡ before
+NotesAfter what.Stop before p after = after ≡ before
+
+-- The least connection with a number from the given one on whose session idles, if there is one.
+abbrev pub IsLeastIdle : OpenSessions → ℕ → Option ℕ → Type 0
+IsLeastIdle p from None = (c : ℕ) → from ≤ c → c < 4294967296 → idles_if (p.session c) ≡ false
+IsLeastIdle p from (Some n) = (from ≤ n) × (n < 4294967296) × (idles_if (p.session n) ≡ true)
+    × ((c : ℕ) → from ≤ c → c < n → idles_if (p.session c) ≡ false)
 
 -- A node and what is outside of it, between two turns.
 pub record Stage (K : Type 0) : Type 0 where
@@ -157,41 +198,56 @@ stage node out = record { node = node; out = out }
 abbrev pub world_at : {K : Type 0} → LastKnown → Stage K → NodeState
 world_at s p = world_of s (places_in p.node) p.out
 
--- Each of these events does this, from one stage to the next.
-abbrev pub Along : {K : Type 0} → (Arrival → Stage K → Stage K → Type 0) → List Arrival → Stage K
-    → List (Stage K) → Stage K → Type 0
+-- The stage after the acts of an event, and the one after its updates.
+pub record EventStages (K : Type 0) : Type 0 where
+  pub acted : Stage K
+  pub after : Stage K
+
+-- The two of an event.
+abbrev pub event_stages : {K : Type 0} → Stage K → Stage K → EventStages K
+event_stages acted after = record { acted = acted; after = after }
+
+-- Each of these events does this, from one stage to the next two.
+abbrev pub Along : {K : Type 0} → (Arrival → Stage K → EventStages K → Type 0) → List Arrival → Stage K
+    → List (EventStages K) → Stage K → Type 0
 Along does [] p [] q = q ≡ p
 Along does [] p (m ∷ ms) q = ⊥
 Along does (e ∷ es) p [] q = ⊥
-Along does (e ∷ es) p (m ∷ ms) q = does e p m × Along does es m ms q
+Along does (e ∷ es) p (m ∷ ms) q = does e p m × Along does es m.after ms q
 
 -- What an event changes of a stage, whatever the keeper holds.
-abbrev pub GoesAnyway : {K : Type 0} → Arrival → Stage K → Stage K → Type 0
-GoesAnyway arrival p q = TurnsAnyway arrival p.node p.out q.node q.out
+abbrev pub GoesAnyway : {K : Type 0} → Arrival → Stage K → EventStages K → Type 0
+GoesAnyway arrival p m = ActsAnyway arrival p.node p.out m.acted.node m.acted.out
+    × UpdatesAnyway (is_stop arrival.0.what) (places_in m.acted.node) m.acted.out
+    (places_in m.after.node) m.after.out
 
--- After an event the world's count of the disk's faults is that of the keeper, whatever it holds.
-abbrev pub GoesCounting : {K : Type 0} → (K → ℕ) → Arrival → Stage K → Stage K → Type 0
-GoesCounting faults arrival p q = q.out.disk ≡ faults q.node.keep
+-- After the acts of an event, and after its updates, the world's count of the disk's faults is that of the
+-- keeper, whatever it holds.
+abbrev pub GoesCounting : {K : Type 0} → (K → ℕ) → Arrival → Stage K → EventStages K → Type 0
+GoesCounting faults arrival p m = (m.acted.out.disk ≡ faults m.acted.node.keep)
+    × (m.after.out.disk ≡ faults m.after.node.keep)
 
--- The worlds after these turns are those of the stages, each with how the archive stands then.
-abbrev pub AreAt : {K : Type 0} → List (Stage K) → List Turn → Type 0
+-- The worlds of these turns are those of the stages, each with how the archive stands then.
+abbrev pub AreAt : {K : Type 0} → List (EventStages K) → List Turn → Type 0
 AreAt [] [] = Unit {0}
 AreAt [] (t ∷ ts) = ⊥
 AreAt (m ∷ ms) [] = ⊥
-AreAt (m ∷ ms) (t ∷ ts) = (t.after ≡ world_at t.after.standing m) × AreAt ms ts
+AreAt (m ∷ ms) (t ∷ ts) = (t.between ≡ world_at t.between.standing m.acted)
+    × (t.after ≡ world_at t.after.standing m.after) × AreAt ms ts
 
 -- What connections had taken, how often each was closed, and how many sends were lost, at a stage.
 abbrev pub outputs_at : {K : Type 0} → Stage K → Outputs
 outputs_at p = outputs p.out.taken p.out.closings p.out.lost
 
--- The same at the stage before each of these.
-abbrev pub outputs_along : {K : Type 0} → Stage K → List (Stage K) → List Outputs
+-- The same at the stage before each of these events.
+abbrev pub outputs_along : {K : Type 0} → Stage K → List (EventStages K) → List Outputs
 outputs_along p [] = []
-outputs_along p (m ∷ ms) = outputs_at p ∷ outputs_along m ms
+outputs_along p (m ∷ ms) = outputs_at p ∷ outputs_along m.after ms
 
 -- The same each time that a host was asked for the next event and answered: before each turn, and at
 -- the last stage if it answered that none is left.
-abbrev pub outputs_noted : {K : Type 0} → Bool → Stage K → List (Stage K) → Stage K → List Outputs
+abbrev pub outputs_noted : {K : Type 0} → Bool → Stage K → List (EventStages K) → Stage K
+    → List Outputs
 outputs_noted true p ms q = outputs_along p ms ++ outputs_at q ∷ []
 outputs_noted false p ms q = outputs_along p ms
 
@@ -216,7 +272,7 @@ module _ {K : Type 0} (along : ℕ → K → SessionState SessionAtWork LastKnow
   CameKept (Some start) moment c piece old w passed new v =
       PieceKept moment c start piece old w passed new v
 
-  -- What happened. Where it is no piece the state stays.
+  -- The acts of what happened. Where it is no piece the state stays.
   abbrev pub TurnKeptBy : What → ℕ → List ℕ → K → NodeState → List LastKnown → K → NodeState → Type 0
   TurnKeptBy (what.Bytes c len) moment piece old w passed new v =
       CameKept (w.session c) moment c piece old w passed new v
@@ -230,7 +286,8 @@ module _ {K : Type 0} (along : ℕ → K → SessionState SessionAtWork LastKnow
 module _ {K : Type 0} (g : Keeper K) where
   -- How many texts a piece reads at most at a moment at a ready keeper, by its session: no more than the
   -- requests ask for that the piece makes whole. So the archive isn't read anew before it. The keeper
-  -- stays ready, unless a request at the control door may change the archive.
+  -- stays ready, unless a request at the control door may change the archive. Nothing bounds what a
+  -- piece of LMTP reads, whose deliveries may each have to be reopened for.
   abbrev pub ReadsAt : ℕ → Session → List ℕ → K → K → Type 0
   ReadsAt moment (kind.Control bytes) piece old new =
       Meets (asks_for (bytes ++ piece)) (g.ready new) (g.reads old) (g.reads new)
@@ -242,6 +299,10 @@ module _ {K : Type 0} (g : Keeper K) where
   ReadsAt moment (kind.Http bytes) piece old new = (g.ready new ≡ true)
       × ReadsBytes g.holds (bytes ++ piece) old (g.reads old) (g.reads new)
       × ReadsNothing g.holds (bytes ++ piece) old (g.reads old) (g.reads new)
+  ReadsAt moment (kind.Lmtp guest) piece old new = Unit {0}
+  ReadsAt moment (kind.Imap client) piece old new = (g.ready new ≡ true)
+      × ((a : Archive) → g.holds old a → SuitsClient a client.0
+      → ReadsUpTo (texts_ahead a (framed_more piece client)) (g.reads old) (g.reads new))
 
   -- The same of a piece that came to a connection. Without a session nothing is read.
   abbrev pub ReadsCame : ℕ → Option Session → List ℕ → K → K → Type 0
@@ -255,16 +316,27 @@ module _ {K : Type 0} (g : Keeper K) where
       ReadsCame moment ((places_in old).session c) piece old.keep new.keep
   ReadsForEvent moment other piece old new = g.reads new.keep ≡ g.reads old.keep
 
-  -- The same of an event, from one stage to the next.
-  abbrev pub GoesReading : Arrival → Stage K → Stage K → Type 0
-  GoesReading arrival p q = ReadsForEvent arrival.0.moment arrival.0.what arrival.1 p.node q.node
+  -- Updates leave the keeper alone, unless a session idles and the keeper has to be reopened for it.
+  -- After a stop they do in any case.
+  abbrev pub LeftAlone : Bool → Serving K → K → Type 0
+  LeftAlone stops old new = (stops ≡ true)
+      ⊎ ((any_idles (places_in old).session ≡ false) ⊎ (g.ready old.keep ≡ true)) → new ≡ old.keep
+
+  -- The same of an event, from one stage to the next two. Where the keeper isn't ready after it, no update
+  -- was given.
+  abbrev pub GoesReading : Arrival → Stage K → EventStages K → Type 0
+  GoesReading arrival p m =
+      ReadsForEvent arrival.0.moment arrival.0.what arrival.1 p.node m.acted.node
+      × LeftAlone (is_stop arrival.0.what) m.acted.node m.after.node.keep
+      × (g.ready m.after.node.keep ≡ false → UpdatesAnyway true (places_in m.acted.node) m.acted.out
+      (places_in m.after.node) m.after.out)
 
 module _ {K : Type 0} (g : Keeper K) where
   -- Beside the talks of a session at a moment stands the keeper after each act.
   abbrev pub ActsAlong : ℕ → K → SessionState SessionAtWork LastKnown → List K
       → List (SessionState SessionAtWork LastKnown) → K → Type 0
   ActsAlong moment old w ks ms new =
-      KeptAlong (KeeperActs g (said moment) is_asked reopens) old w ks ms new
+      KeptAlong (KeeperActs g (doors_at moment)) old w ks ms new
 
   -- Whatever the keeper matches, it is reopened before a piece, or that is refused and the session's
   -- door says so.
@@ -281,68 +353,146 @@ module _ {K : Type 0} (g : Keeper K) where
     pub fits : MatchesKnown g new after
     pub held : Option SessionAtWork
     pub rest_is : held_if goes_on left ≡ rest_if held
-    pub course : KeeperRun g (said moment) is_asked reopens old new (talk (Some start) s i)
-        (talk held after j)
+    pub course : KeeperRun g (doors_at moment) old new (talk (Some start) s i) (talk held after j)
 
-  -- The same of a session before a piece, whose archive has yet to be reopened.
+  -- The same of a session before a piece, whose archive has yet to be reopened. What the client knows
+  -- suits each archive that this may find.
   abbrev pub AnswersPiece : ℕ → Session → List ℕ → K → ConnectionState → Bool → Session → K
       → ConnectionState → Type 0
   AnswersPiece moment start piece old i goes_on left new j = (s : LastKnown)
-      → MatchesKnown g old s
+      → MatchesKnown g old s → ((a : Archive) → IsFound s a → SessionSuits a start)
       → FedFrom moment (Came start piece) s old i goes_on left new j
 
-  -- A node took an event to its end. After each of its acts the keeper matches what stands then, the
-  -- world's count of the disk's faults is the keeper's, and a crash in the act leaves an archive that
-  -- stood before it or after it, or one in doubt there. So a crash since the event began leaves an archive
-  -- that stood before it or after one of its acts, or one in doubt there. An act that reopens a ready
-  -- keeper changes nothing.
-  pub record TurnsTo (arrival : Arrival) (s : LastKnown) (old : Serving K) (i : HostState)
+  -- A node took the acts of an event. After each of them the keeper matches what stands then, the world's
+  -- count of the disk's faults is the keeper's, and a crash in the act leaves an archive that stood before
+  -- it or after it, or one in doubt there. So a crash since the event began leaves an archive that stood
+  -- before it or after one of its acts, or one in doubt there. Each act did of the keeper what it asks,
+  -- and no more.
+  pub record ActsTo (arrival : Arrival) (s : LastKnown) (old : Serving K) (i : HostState)
       (new : Serving K) (j : HostState) : Type 0 where
     pub after : LastKnown
     pub fits : MatchesKnown g new.keep after
     pub passed : List LastKnown
-    pub turned : Turned arrival (world_of s (places_in old) i) passed (world_of after (places_in new) j)
+    pub acted : Acted arrival (world_of s (places_in old) i) passed (world_of after (places_in new) j)
     pub kept : TurnKept ActsAlong arrival old.keep (world_of s (places_in old) i) passed new.keep
         (world_of after (places_in new) j)
     pub passes : CrashesLeaveOnly g.leaves old.keep new.keep (s ∷ passed)
-    pub crash : g.leaves old.keep new.keep (archives_of (s ∷ passed))
 
-  -- Whatever the node's keeper matches, this is so.
-  abbrev pub Turns : Arrival → Serving K → HostState → Serving K → HostState → Type 0
-  Turns arrival old i new j = (s : LastKnown) → MatchesKnown g old.keep s
-      → TurnsTo arrival s old i new j
+  -- What clients of a node know suits the archive that its keeper stands for, and what it notes of sessions
+  -- that idle is so. Where it notes that all were told, the keeper is ready.
+  pub record NodeSuits (s : LastKnown) (node : Serving K) (i : HostState) : Type 0 where
+    pub clients : ClientsSuit (world_of s (places_in node) i)
+    pub noted : NotedIs node.idling (world_of s (places_in node) i)
+    pub ready : node.idling ≡ Told → g.ready node.keep ≡ true
 
-  -- A keeper went from one state to another by these turns, through these stages. After each it fits
-  -- what stands then, and so it does after each of its acts; and a crash within a turn leaves an archive
-  -- that stood before it or after one of its acts, or one that was in doubt there.
-  abbrev pub StepsTo : List Arrival → K → NodeState → List (Stage K) → List Turn → K → Type 0
+  -- Whatever the node's keeper matches, this is so, if what clients know suits it.
+  abbrev pub DoesActs : Arrival → Serving K → HostState → Serving K → HostState → Type 0
+  DoesActs arrival old i new j = (s : LastKnown) → MatchesKnown g old.keep s
+      → ClientsSuit (world_of s (places_in old) i) → ActsTo arrival s old i new j
+
+  -- The keeper was reopened before updates, or that was refused. It changes nothing of a ready keeper; of
+  -- one that isn't, it finds the archive as which the files read, unless it is refused. It adds nothing that
+  -- a crash may leave. The count of faults after it is the keeper's. Exactly where the keeper is ready then,
+  -- each session that idles was given its update.
+  pub record KeeperReopened (old : K) (w : NodeState) (new : K) (v : NodeState) : Type 0 where
+    pub moves : KeeperMoves g old w.standing new v.standing
+    pub does : ReopenedAs g (reopening w.standing) old (outside None w.out.disk w.out.lost)
+        (held_if (g.ready new) tt) new v.standing (outside None v.out.disk w.out.lost)
+    pub disk : v.out.disk ≡ g.faults new
+    pub leaves : CrashesLeaveOnly g.leaves old new []
+    pub each : EachIf (g.ready new) (with_keeper v.standing v.out.disk w) v
+
+  -- Where a session idles the keeper was reopened, and updates left it so. Else it is as it was.
+  abbrev pub ReopenedIf : Bool → K → NodeState → K → NodeState → Type 0
+  ReopenedIf true old w new v = KeeperReopened old w new v
+  ReopenedIf false old w new v = new ≡ old
+
+  -- The same of the updates after an event, unless it is a stop.
+  abbrev pub UpdatesKept : Bool → K → NodeState → K → NodeState → Type 0
+  UpdatesKept true old w new v = new ≡ old
+  UpdatesKept false old w new v = ReopenedIf (any_idles w.session) old w new v
+
+  -- A node gave the updates after an event, unless it is a stop. The keeper then matches what stands, and
+  -- what the node notes of sessions that idle is so.
+  pub record UpdatesTo (stops : Bool) (s : LastKnown) (old : Serving K) (i : HostState)
+      (new : Serving K) (j : HostState) : Type 0 where
+    pub after : LastKnown
+    pub fits : MatchesKnown g new.keep after
+    pub reopened : List LastKnown
+    pub updated : UpdatedUnless stops (world_of s (places_in old) i) reopened
+        (world_of after (places_in new) j)
+    pub kept : UpdatesKept stops old.keep (world_of s (places_in old) i) new.keep
+        (world_of after (places_in new) j)
+    pub noted : NotedIs new.idling (world_of after (places_in new) j)
+    pub ready : new.idling ≡ Told → g.ready new.keep ≡ true
+
+  -- Whatever the node's keeper matches, this is so, if what clients know suits it.
+  abbrev pub GivesUpdates : Bool → Serving K → HostState → Serving K → HostState → Type 0
+  GivesUpdates stops old i new j = (s : LastKnown) → MatchesKnown g old.keep s → NodeSuits s old i
+      → UpdatesTo stops s old i new j
+
+  -- A node took an event to its end: its acts, and then the updates.
+  pub record TurnsTo (arrival : Arrival) (s : LastKnown) (old : Stage K) (m : EventStages K)
+      : Type 0 where
+    pub acts : ActsTo arrival s old.node old.out m.acted.node m.acted.out
+    pub updates : UpdatesTo (is_stop arrival.0.what) acts.after m.acted.node m.acted.out m.after.node
+        m.after.out
+    pub suits : NodeSuits updates.after m.after.node m.after.out
+
+  -- Whatever the node's keeper matches, this is so, if what clients know suits it.
+  abbrev pub Turns : Arrival → Stage K → EventStages K → Type 0
+  Turns arrival old m = (s : LastKnown) → MatchesKnown g old.node.keep s
+      → NodeSuits s old.node old.out → TurnsTo arrival s old m
+
+  -- What `turn` does of an event: what it changes whatever the keeper holds, how much it reads, that the
+  -- counts of faults are the keeper's, and what it is where the keeper matches what stands.
+  pub record TurnsBy (arrival : Arrival) (old : Stage K) (m : EventStages K) : Type 0 where
+    pub turns : Turns arrival old m
+    pub anyway : GoesAnyway arrival old m
+    pub reads_few : GoesReading g arrival old m
+    pub counts : GoesCounting g.faults arrival old m
+
+  -- A keeper went through one turn: its acts, and its updates. After each act it matches what stands then;
+  -- and a crash within the turn leaves an archive that stood before it or after one of its acts, or one
+  -- that was in doubt there.
+  pub record StepsOnce (e : Arrival) (old : K) (w : NodeState) (m : EventStages K) (t : Turn)
+      : Type 0 where
+    pub acted_fits : MatchesKnown g m.acted.node.keep t.between.standing
+    pub fits : MatchesKnown g m.after.node.keep t.after.standing
+    pub passes : CrashesLeaveOnly g.leaves old m.acted.node.keep (w.standing ∷ t.passed)
+    pub kept : TurnKept ActsAlong e old w t.passed m.acted.node.keep t.between
+    pub updates : UpdatesKept (is_stop e.0.what) m.acted.node.keep t.between m.after.node.keep t.after
+
+  -- A keeper went from one state to another by these turns, through these stages.
+  abbrev pub StepsTo : List Arrival → K → NodeState → List (EventStages K) → List Turn → K → Type 0
   StepsTo [] old w [] [] new = new ≡ old
   StepsTo [] old w [] (t ∷ ts) new = ⊥
   StepsTo [] old w (m ∷ ms) ts new = ⊥
   StepsTo (e ∷ es) old w [] ts new = ⊥
   StepsTo (e ∷ es) old w (m ∷ ms) [] new = ⊥
-  StepsTo (e ∷ es) old w (m ∷ ms) (t ∷ ts) new = MatchesKnown g m.node.keep t.after.standing
-      × CrashesLeaveOnly g.leaves old m.node.keep (w.standing ∷ t.passed)
-      × TurnKept ActsAlong e old w t.passed m.node.keep t.after
-      × StepsTo es m.node.keep t.after ms ts new
+  StepsTo (e ∷ es) old w (m ∷ ms) (t ∷ ts) new = StepsOnce e old w m t
+      × StepsTo es m.after.node.keep t.after ms ts new
 
   -- A node took these events to their end, one after another, through these stages.
   pub record RunsTo (arrivals : List Arrival) (s : LastKnown) (old : Serving K) (i : HostState)
-      (stages : List (Stage K)) (new : Serving K) (j : HostState) : Type 0 where
+      (stages : List (EventStages K)) (new : Serving K) (j : HostState) : Type 0 where
     pub after : LastKnown
     pub fits : MatchesKnown g new.keep after
     pub turns : List Turn
     pub served : Served arrivals (world_of s (places_in old) i) turns (world_of after (places_in new) j)
     pub at : AreAt stages turns
     pub steps : StepsTo arrivals old.keep (world_of s (places_in old) i) stages turns new.keep
+    pub suits : NodeSuits after new j
     pub passes : CrashesLeaveOnly g.leaves old.keep new.keep (s ∷ passed_in turns)
     pub crash : g.leaves old.keep new.keep (archives_of (s ∷ passed_in turns))
 
   -- A node served the events that a host gave, in order, each from one stage to the next. Whatever
-  -- the keeper holds, an event changes nothing of other connections, and reads no more than it asks
-  -- for; and at each stage the world's count of the disk's faults is the keeper's. The host, whose
-  -- records these are, was asked before each event, when all before it had been answered, and at the
-  -- end if it then answered that none is left.
+  -- the keeper holds, an event changes nothing of other connections, but of those whose sessions idle; its
+  -- acts read no more than they ask for, and updates nothing, unless the keeper has to be reopened for them;
+  -- and at each stage the world's count of the disk's faults is the
+  -- keeper's. The host, whose records these are, was asked before each event, when all before it had been
+  -- answered, and at the end if it then answered that none is left. The events were served where the
+  -- keeper matched what stood, and what clients knew suited its archives.
   pub record ServesTo (end : ServeEnd) (turns : ℕ) (old : Serving K) (i : HostState)
       (new : Serving K)
       (j : HostState) (given given' left left' : ToldEvents) (faults faults' : ℕ)
@@ -352,13 +502,14 @@ module _ {K : Type 0} (g : Keeper K) where
     pub left_is : left ≡ before_all arrivals left'
     pub none : Bool
     pub ends : ServingEnds end none arrivals turns left' faults faults'
-    pub stages : List (Stage K)
+    pub stages : List (EventStages K)
     pub anyway : Along GoesAnyway arrivals (stage old i) stages (stage new j)
     pub reads_few : Along (GoesReading g) arrivals (stage old i) stages (stage new j)
     pub counts : Along (GoesCounting g.faults) arrivals (stage old i) stages (stage new j)
     pub records : (past : List Outputs) → recorded past
         → recorded' (past ++ outputs_noted none (stage old i) stages (stage new j))
-    pub runs : (s : LastKnown) → MatchesKnown g old.keep s → RunsTo arrivals s old i stages new j
+    pub runs : (s : LastKnown) → MatchesKnown g old.keep s → NodeSuits s old i
+        → RunsTo arrivals s old i stages new j
 
   -- An event was taken from the host, and to its end.
   pub record TookOne (old : Serving K) (i : HostState) (new : Serving K) (j : HostState)
@@ -369,10 +520,8 @@ module _ {K : Type 0} (g : Keeper K) where
     pub given_is : given' ≡ then_given given arrival
     pub left_is : left ≡ before_left arrival left'
     pub stop_is : is_stop arrival.0.what ≡ stops
-    pub turns : Turns arrival old i new j
-    pub anyway : GoesAnyway arrival (stage old i) (stage new j)
-    pub reads_few : GoesReading g arrival (stage old i) (stage new j)
-    pub counts : GoesCounting g.faults arrival (stage old i) (stage new j)
+    pub acted : Stage K
+    pub turns : TurnsBy arrival (stage old i) (event_stages acted (stage new j))
     pub records : (past : List Outputs) → recorded past
         → recorded' (past ++ outputs_at (stage old i) ∷ [])
 

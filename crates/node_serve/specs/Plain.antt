@@ -11,28 +11,30 @@ use Rattle.line_door.specs.Plain.{plain}
 use Rattle.keep_course.specs.Courses.{afters}
 use Rattle.arch_model.specs.Standing.{LastKnown}
 use Rattle.control_door.specs.Door as control
-use Rattle.nntp_reader.specs.Door as news
 use Rattle.line_door.specs.Readers as readers
+use Rattle.lmtp_door.specs.Door as mail
 use Rattle.node_serve.specs.declared.session.Session.{Session}
-use Rattle.node_serve.specs.Doors.{SessionAtWork, Came, AtControl, AtNews, AtPop, AtHttp, with_piece, rest_if, said, is_asked, said_making}
+use Rattle.imap_framer.specs.Doors.{framed_size}
+use Rattle.node_serve.specs.Doors.{SessionAtWork, Came, AtControl, AtNews, AtPop, AtHttp, AtLmtp, AtImap, with_piece, rest_if, said, is_asked, said_making}
+use Rattle.node_serve.specs.Ends.{is_stop}
 use Rattle.node_serve.specs.Turns.{Turn}
+use Rattle.node_serve.specs.Updates.{connection_limit, idles, any_idles, EachBelow, IfIdles, said_update, reopening, with_keeper}
 use Rattle.node_serve.specs.World.{NodeState, outer, Around, Same, EndedAt, outside_at, others_open, one_if, closed_if, closed_at_if, open_below}
 
 -- The size of a session at its door. Each request that leaves it open makes it smaller.
 abbrev pub size_at_door : SessionAtWork → ℕ
 size_at_door (Came start piece) = 0
 size_at_door (AtControl w) = control.left w
-size_at_door (AtNews reader) = news.left reader
+size_at_door (AtNews reader) = readers.left reader
 size_at_door (AtPop client) = readers.left client
 size_at_door (AtHttp bytes) = length bytes
+size_at_door (AtLmtp guest) = mail.size_of guest
+size_at_door (AtImap client) = framed_size client
 
 -- The size of a session at work, which the reopening before a piece makes smaller, too.
 abbrev pub size_of : SessionAtWork → ℕ
 size_of (Came start piece) = suc (size_at_door (with_piece start piece))
-size_of (AtControl w) = control.left w
-size_of (AtNews reader) = news.left reader
-size_of (AtPop client) = readers.left client
-size_of (AtHttp bytes) = length bytes
+size_of h = size_at_door h
 
 -- What a piece says: the answers to its whole requests in order, after which the rest is kept.
 abbrev pub piece_said : ℕ → LastKnown → SessionAtWork → Said SessionAtWork LastKnown
@@ -95,29 +97,80 @@ after_end c w = record {
   out = w.out;
 }
 
--- The turn after whose acts the archive stood so, and after which this is the world.
-abbrev pub turn_to : List LastKnown → NodeState → Turn
-turn_to passed v = record { passed = passed; after = v }
+-- What some acts make of a world: how the archive stood after each of them, and the world after them.
+pub record Change : Type 0 where
+  pub passed : List LastKnown
+  pub after : NodeState
+
+-- The change of these two parts.
+abbrev pub change_to : List LastKnown → NodeState → Change
+change_to passed v = record { passed = passed; after = v }
 
 -- A piece that came to a session, if there is one.
-abbrev pub plain_piece : Option Session → ℕ → ℕ → List ℕ → NodeState → Turn
-plain_piece None moment c piece w = turn_to [] w
+abbrev pub plain_piece : Option Session → ℕ → ℕ → List ℕ → NodeState → Change
+plain_piece None moment c piece w = change_to [] w
 plain_piece (Some start) moment c piece w =
-    turn_to (piece_passed moment w.standing (Came start piece))
+    change_to (piece_passed moment w.standing (Came start piece))
     (after_said c (between_pieces (piece_said moment w.standing (Came start piece))) w)
 
 -- What happened at a moment.
-abbrev pub plain_event : What → ℕ → List ℕ → NodeState → Turn
+abbrev pub plain_event : What → ℕ → List ℕ → NodeState → Change
 plain_event (what.Opened c door) moment piece w =
-    turn_to [] (after_said c (said_making moment door (others_open c w) w.standing Plain) w)
+    change_to [] (after_said c (said_making moment door (others_open c w) w.standing Plain) w)
 plain_event (what.Bytes c len) moment piece w = plain_piece (w.session c) moment c piece w
-plain_event (what.Ended c) moment piece w = turn_to [] (after_end c w)
-plain_event what.Quiet moment piece w = turn_to [] w
-plain_event what.Stop moment piece w = turn_to [] w
+plain_event (what.Ended c) moment piece w = change_to [] (after_end c w)
+plain_event what.Quiet moment piece w = change_to [] w
+plain_event what.Stop moment piece w = change_to [] w
+
+-- The acts of one event, with its piece.
+abbrev pub plain_acted : Arrival → NodeState → Change
+plain_acted arrival w = plain_event arrival.0.what arrival.0.moment arrival.1 w
+
+-- The update of the session of a connection, if it idles.
+abbrev pub update_if : Bool → Session → ℕ → NodeState → NodeState
+update_if true start c w = after_said c (said_update w.standing start Plain) w
+update_if false start c w = w
+
+abbrev pub update_of : Option Session → ℕ → NodeState → NodeState
+update_of None c w = w
+update_of (Some start) c w = update_if (idles start) start c w
+
+abbrev pub plain_update : ℕ → NodeState → NodeState
+plain_update c w = update_of (w.session c) c w
+
+-- The updates of the connections with numbers below the given one, in rising order.
+abbrev pub plain_updates : ℕ → NodeState → NodeState
+plain_updates zero w = w
+plain_updates (suc c) w = plain_update c (plain_updates c w)
+
+-- The world once the archive was reopened.
+abbrev pub opened_plainly : NodeState → NodeState
+opened_plainly w = with_keeper (reopening w.standing Plain).after w.out.disk w
+
+-- The updates where a session idles. Else nothing is done.
+abbrev pub plain_updated_if : Bool → NodeState → Change
+plain_updated_if true w = change_to ((reopening w.standing Plain).after ∷ [])
+    (plain_updates connection_limit (opened_plainly w))
+plain_updated_if false w = change_to [] w
+
+-- The updates after an event, unless it is a stop.
+abbrev pub plain_updated : Bool → NodeState → Change
+plain_updated true w = change_to [] w
+plain_updated false w = plain_updated_if (any_idles w.session) w
+
+-- The turn of these acts and updates.
+abbrev pub turn_of : Change → Change → Turn
+turn_of acted updated = record {
+  passed = acted.passed;
+  between = acted.after;
+  reopened = updated.passed;
+  after = updated.after;
+}
 
 -- One event, with its piece, by the rules.
 abbrev pub plain_turn : Arrival → NodeState → Turn
-plain_turn arrival w = plain_event arrival.0.what arrival.0.moment arrival.1 w
+plain_turn arrival w = turn_of (plain_acted arrival w)
+    (plain_updated (is_stop arrival.0.what) (plain_acted arrival w).after)
 
 -- These events in order, by the rules.
 abbrev pub plain_turns : List Arrival → NodeState → List Turn
@@ -161,19 +214,41 @@ PlainCameTo None moment c piece w passed v = Same w v × (passed ≡ [])
 PlainCameTo (Some start) moment c piece w passed v = PlainFedAt moment c start piece w passed v
 
 -- What happened at a moment, by plain acts.
-abbrev pub PlainTurnedBy : What → ℕ → List ℕ → NodeState → List LastKnown → NodeState → Type 0
-PlainTurnedBy (what.Opened c door) moment piece w passed v =
+abbrev pub PlainActedBy : What → ℕ → List ℕ → NodeState → List LastKnown → NodeState → Type 0
+PlainActedBy (what.Opened c door) moment piece w passed v =
     PlainActAt c (said_making moment door (others_open c w) w.standing Plain) w v × (passed ≡ [])
-PlainTurnedBy (what.Bytes c len) moment piece w passed v =
+PlainActedBy (what.Bytes c len) moment piece w passed v =
     PlainCameTo (w.session c) moment c piece w passed v
-PlainTurnedBy (what.Ended c) moment piece w passed v = EndedAt c w v × (passed ≡ [])
-PlainTurnedBy what.Quiet moment piece w passed v = Same w v × (passed ≡ [])
-PlainTurnedBy what.Stop moment piece w passed v = Same w v × (passed ≡ [])
+PlainActedBy (what.Ended c) moment piece w passed v = EndedAt c w v × (passed ≡ [])
+PlainActedBy what.Quiet moment piece w passed v = Same w v × (passed ≡ [])
+PlainActedBy what.Stop moment piece w passed v = Same w v × (passed ≡ [])
 
--- One event, each of whose acts is a plain one.
-abbrev pub PlainTurned : Arrival → NodeState → List LastKnown → NodeState → Type 0
-PlainTurned arrival w passed v =
-    PlainTurnedBy arrival.0.what arrival.0.moment arrival.1 w passed v
+-- The session of a connection, if it idles, is given its update by a plain act.
+abbrev pub PlainUpdateBy : Option Session → ℕ → NodeState → NodeState → Type 0
+PlainUpdateBy None c w v = v ≡ w
+PlainUpdateBy (Some start) c w v =
+    IfIdles (idles start) (PlainActAt c (said_update w.standing start Plain) w v) w v
+
+abbrev pub PlainUpdateAt : ℕ → NodeState → NodeState → Type 0
+PlainUpdateAt c w v = PlainUpdateBy (w.session c) c w v
+
+-- Where a session idles the archive was reopened by the rules, and each that idles was given its update by
+-- a plain act.
+abbrev pub PlainUpdatedIf : Bool → NodeState → List LastKnown → NodeState → Type 0
+PlainUpdatedIf true w reopened v = EachBelow PlainUpdateAt connection_limit (opened_plainly w) v
+    × (reopened ≡ (opened_plainly w).standing ∷ [])
+PlainUpdatedIf false w reopened v = (v ≡ w) × (reopened ≡ [])
+
+-- The updates after an event, unless it is a stop, by plain acts.
+abbrev pub PlainUpdatedUnless : Bool → NodeState → List LastKnown → NodeState → Type 0
+PlainUpdatedUnless true w reopened v = (v ≡ w) × (reopened ≡ [])
+PlainUpdatedUnless false w reopened v = PlainUpdatedIf (any_idles w.session) w reopened v
+
+-- One event, each of whose acts and updates is a plain act.
+abbrev pub PlainTurned : Arrival → NodeState → Turn → Type 0
+PlainTurned arrival w t =
+    PlainActedBy arrival.0.what arrival.0.moment arrival.1 w t.passed t.between
+    × PlainUpdatedUnless (is_stop arrival.0.what) t.between t.reopened t.after
 
 -- These events in order, each with such a turn.
 abbrev pub PlainServed : List Arrival → NodeState → List Turn → NodeState → Type 0
@@ -181,4 +256,4 @@ PlainServed [] w [] v = v ≡ w
 PlainServed [] w (t ∷ ts) v = ⊥
 PlainServed (arrival ∷ arrivals) w [] v = ⊥
 PlainServed (arrival ∷ arrivals) w (t ∷ ts) v =
-    PlainTurned arrival w t.passed t.after × PlainServed arrivals t.after ts v
+    PlainTurned arrival w t × PlainServed arrivals t.after ts v

@@ -1,5 +1,5 @@
 -- What an event may make of a world: its acts in their order, each by the rules of its door or by a
--- departure that they name, for a cause in that very act.
+-- departure that they name, for a cause in that very act; and then the updates of sessions that idle.
 use Rattle.std.specs.Prelude.{◌≡◌, ℕ, List, [], ◌∷◌, ◌++◌, Option, Some, None}
 use Rattle.edge_io.specs.Scripts.{Arrival}
 use Rattle.edge_io.specs.Frames.{Outputs, outputs}
@@ -10,6 +10,8 @@ use Rattle.keep_course.specs.Courses.{afters}
 use Rattle.arch_model.specs.Standing.{LastKnown}
 use Rattle.node_serve.specs.declared.session.Session.{Session}
 use Rattle.node_serve.specs.Doors.{SessionAtWork, Came, rest_if, said, is_asked, said_making}
+use Rattle.node_serve.specs.Ends.{is_stop}
+use Rattle.node_serve.specs.Updates.{UpdatedUnless}
 use Rattle.node_serve.specs.World.{NodeState, ActAt, Same, EndedAt, Around, outside_at, others_open}
 
 -- A piece came to the session of a connection. The archive was reopened, the whole requests were
@@ -34,37 +36,44 @@ CameTo (Some start) moment c piece w passed v = FedAt moment c start piece w pas
 
 -- What happened at a moment. A connection that opens ends an open session of its own without a word;
 -- then its session is made, which greets, or is refused.
-abbrev pub TurnedBy : What → ℕ → List ℕ → NodeState → List LastKnown → NodeState → Type 0
-TurnedBy (what.Opened c door) moment piece w passed v =
+abbrev pub ActedBy : What → ℕ → List ℕ → NodeState → List LastKnown → NodeState → Type 0
+ActedBy (what.Opened c door) moment piece w passed v =
     ActAt c (said_making moment door (others_open c w) w.standing) w v × (passed ≡ [])
-TurnedBy (what.Bytes c len) moment piece w passed v =
+ActedBy (what.Bytes c len) moment piece w passed v =
     CameTo (w.session c) moment c piece w passed v
-TurnedBy (what.Ended c) moment piece w passed v = EndedAt c w v × (passed ≡ [])
-TurnedBy what.Quiet moment piece w passed v = Same w v × (passed ≡ [])
-TurnedBy what.Stop moment piece w passed v = Same w v × (passed ≡ [])
+ActedBy (what.Ended c) moment piece w passed v = EndedAt c w v × (passed ≡ [])
+ActedBy what.Quiet moment piece w passed v = Same w v × (passed ≡ [])
+ActedBy what.Stop moment piece w passed v = Same w v × (passed ≡ [])
 
--- One event, with its piece.
-abbrev pub Turned : Arrival → NodeState → List LastKnown → NodeState → Type 0
-Turned arrival w passed v =
-    TurnedBy arrival.0.what arrival.0.moment arrival.1 w passed v
+-- The acts of one event, with its piece.
+abbrev pub Acted : Arrival → NodeState → List LastKnown → NodeState → Type 0
+Acted arrival w passed v = ActedBy arrival.0.what arrival.0.moment arrival.1 w passed v
 
--- One event of many: how the archive stood after each of its acts, and the world after it.
+-- One event of many: how the archive stood after each of its acts, and the world after these; how the
+-- archive stood after the reopening before the updates, or its refusal, if there was one, and the world
+-- after them.
 pub record Turn : Type 0 where
   pub passed : List LastKnown
+  pub between : NodeState
+  pub reopened : List LastKnown
   pub after : NodeState
+
+-- One event: its acts, and then the updates of sessions that idle.
+abbrev pub Turned : Arrival → NodeState → Turn → Type 0
+Turned arrival w t = Acted arrival w t.passed t.between
+    × UpdatedUnless (is_stop arrival.0.what) t.between t.reopened t.after
 
 -- These events in order, each with its turn.
 abbrev pub Served : List Arrival → NodeState → List Turn → NodeState → Type 0
 Served [] w [] v = v ≡ w
 Served [] w (t ∷ ts) v = ⊥
 Served (arrival ∷ arrivals) w [] v = ⊥
-Served (arrival ∷ arrivals) w (t ∷ ts) v =
-    Turned arrival w t.passed t.after × Served arrivals t.after ts v
+Served (arrival ∷ arrivals) w (t ∷ ts) v = Turned arrival w t × Served arrivals t.after ts v
 
--- How the archive stood after each act of these turns.
+-- How the archive stood after each act of these turns, and after each reopening.
 abbrev pub passed_in : List Turn → List LastKnown
 passed_in [] = []
-passed_in (t ∷ ts) = t.passed ++ passed_in ts
+passed_in (t ∷ ts) = t.passed ++ (t.reopened ++ passed_in ts)
 
 -- What connections had taken, how often each was closed, and how many sends were lost, in a world.
 abbrev pub outputs_of : NodeState → Outputs

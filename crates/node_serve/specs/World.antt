@@ -25,6 +25,10 @@ outer taken closings disk lost closed_at = record {
   closed_at = closed_at;
 }
 
+-- The outside, where the disk has this count of faults.
+abbrev pub with_disk : ℕ → HostState → HostState
+with_disk disk o = outer o.taken o.closings disk o.lost o.closed_at
+
 -- The outside of a node's turns at this host, where the disk has this count of faults.
 abbrev pub at_host : {H : Type 0} → Host H → H → ℕ → HostState
 at_host h host disk = outer (h.taken host) (h.closings host) disk (h.lost host) (h.closed_at host)

@@ -1,21 +1,21 @@
 //! The sessions of connections: how each is made, answers its pieces, and ends.
 //! Writes the disk; syncs.
-ghost use Rattle.std.specs.Prelude.{◌≡◌, ◌≤◌, ◌<◌, ℕ, [], None};
+ghost use Rattle.std.specs.Prelude.{◌≡◌, ◌≤◌, ◌<◌, ℕ, None};
 ghost use Rattle.arch_base.specs.Moments.{last_moment};
 ghost use Rattle.arch_model.specs.Standing.{LastKnown};
 ghost use Rattle.edge_io.specs.declared.events.What.TheVariants.{Bytes};
-ghost use Rattle.line_door.specs.Making.{says};
-ghost use Rattle.node_serve.specs.Hosted.{EventsStay, TurnsAt, AnywayAt};
-ghost use Rattle.node_serve.specs.Doors.{session_limit, door_of, greets};
+ghost use Rattle.node_serve.specs.Hosted.{EventsStay, ActsAt, ActsAnywayAt};
+ghost use Rattle.node_serve.specs.Doors.{session_limit};
 ghost use Rattle.node_serve.specs.Nodes.{OpenSessions, MakesSession, SessionEnds, GotSession, IsPut, ReadsCame, places_of, serving};
 ghost use Rattle.node_serve.specs.World.{at_host};
+ghost use Rattle.node_serve.specs.declared.updates.Idling.{Idling};
 
 use crate::session::{Session, feed_one};
-use crate::welcome::{Greeter, door, greet_client, refuse, refuse_starved};
+use crate::welcome::{greet_client, refuse};
 use arch_model::{Keep, Next};
 use control_door::Session as ControlSession;
 use edge_io::{Door, Host};
-use http_front::HttpSession;
+use keep_course::Refusal;
 use std::alloc::Global;
 use std::collections::BTreeMap;
 
@@ -50,56 +50,17 @@ pub(crate) fn admit<H: Host>(
 {
     end(conn, sessions);
     if sessions.len() >= SESSION_LIMIT {
-        refuse(door, conn, moment, host);
+        refuse(door, Refusal::Busy, conn, moment, host);
         return;
     }
-    match door {
-        Door::Control => {
-            let session = Session::Control(ControlSession::open(alloc));
-            open_silent(Door::Control, session, conn, moment, sessions, host)
-        }
-        Door::Http => {
-            let session = Session::Http(HttpSession::open(alloc));
-            open_silent(Door::Http, session, conn, moment, sessions, host)
-        }
-        Door::Nntp => open_greeting(Greeter::News, alloc, conn, moment, sessions, host),
-        Door::Pop3 => open_greeting(Greeter::Pop, alloc, conn, moment, sessions, host),
-        Door::Imap => refuse(Door::Imap, conn, moment, host),
-    }
+    make_session(door, alloc, conn, moment, sessions, host)
 }
 
-/// Makes a session of a door that doesn't greet at a connection without one, or refuses it if memory
-/// runs out.
-fn open_silent<H: Host>(
-    door: Door,
-    session: Session,
-    conn: u32,
-    moment: u64,
-    sessions: &mut Sessions,
-    host: &mut H,
-)
-    requires moment { moment ≤ last_moment }
-    requires silent { (s : LastKnown) → greets door s ≡ says s session [] }
-    requires none { (places_of sessions.old.entries).session conn ≡ None }
-    requires few { (places_of sessions.old.entries).count < session_limit }
-    ensures made { (disk : ℕ) → MakesSession moment door conn (places_of sessions.old.entries)
-        (at_host H.Host host.old disk)
-        (places_of sessions.new.entries)
-        (at_host H.Host host.new disk) }
-    ensures events { EventsStay H.Host host.old host.new }
-{
-    match sessions.insert(conn, session) {
-        Ok(_) => {}
-        Err(_) => refuse_starved(door, conn, moment, host),
-    }
-}
-
-/// Makes a session of a door that greets at a connection without one, or refuses it if memory runs
-/// out.
+/// Makes a session of a door at a connection without one, or refuses it if memory runs out.
 ///
 /// Its place is found first, by a session that takes no memory. So none greets that has no place.
-fn open_greeting<H: Host>(
-    greeter: Greeter,
+fn make_session<H: Host>(
+    door: Door,
     alloc: Global,
     conn: u32,
     moment: u64,
@@ -109,30 +70,29 @@ fn open_greeting<H: Host>(
     requires moment { moment ≤ last_moment }
     requires none { (places_of sessions.old.entries).session conn ≡ None }
     requires few { (places_of sessions.old.entries).count < session_limit }
-    ensures made { (disk : ℕ) → MakesSession moment (door_of greeter) conn
-        (places_of sessions.old.entries)
+    ensures made { (disk : ℕ) → MakesSession moment door conn (places_of sessions.old.entries)
         (at_host H.Host host.old disk)
         (places_of sessions.new.entries)
         (at_host H.Host host.new disk) }
     ensures events { EventsStay H.Host host.old host.new }
 {
     match sessions.insert(conn, Session::Control(ControlSession::open(alloc))) {
-        Ok(_) => greet(greeter, alloc, conn, sessions, host),
-        Err(_) => refuse_starved(door(greeter), conn, moment, host),
+        Ok(_) => greet(door, alloc, conn, sessions, host),
+        Err(_) => refuse(door, Refusal::NoMemory, conn, moment, host),
     }
 }
 
-/// Opens a session in the place of the one that a connection has, and greets. If the greeting is lost,
-/// the connection is closed and has no session.
-fn greet<H: Host>(greeter: Greeter, alloc: Global, conn: u32, sessions: &mut Sessions, host: &mut H)
+/// Opens a session in the place of the one that a connection has, and greets. If the greeting is lost, the
+/// connection is closed and has no session.
+fn greet<H: Host>(door: Door, alloc: Global, conn: u32, sessions: &mut Sessions, host: &mut H)
     ensures made { (disk moment : ℕ) (p : OpenSessions) → GotSession conn p (places_of sessions.old.entries)
-        → p.count < session_limit → MakesSession moment (door_of greeter) conn p
+        → p.count < session_limit → MakesSession moment door conn p
         (at_host H.Host host.old disk)
         (places_of sessions.new.entries)
         (at_host H.Host host.new disk) }
     ensures events { EventsStay H.Host host.old host.new }
 {
-    let (session, next) = greet_client(greeter, alloc, conn, host);
+    let (session, next) = greet_client(door, alloc, conn, host);
     match next {
         Next::Go => put(conn, session, sessions),
         Next::Close => {
@@ -162,14 +122,14 @@ pub(crate) fn feed<K: Keep, H: Host>(
     host: &mut H,
 )
     requires moment { moment ≤ last_moment }
-    ensures turned { (len : ℕ) → TurnsAt K.Keep H.Host
+    ensures acted { (len : ℕ) (before after : Idling) → ActsAt K.Keep H.Host
         (record { moment = moment; what = Bytes conn len }, piece.now)
-        (serving keep.old sessions.old.entries) host.old
-        (serving keep.new sessions.new.entries) host.new }
-    ensures anyway { (len : ℕ) → AnywayAt K.Keep H.Host
+        (serving keep.old sessions.old.entries before) host.old
+        (serving keep.new sessions.new.entries after) host.new }
+    ensures anyway { (len : ℕ) (before after : Idling) → ActsAnywayAt K.Keep H.Host
         (record { moment = moment; what = Bytes conn len }, piece.now)
-        (serving keep.old sessions.old.entries) host.old
-        (serving keep.new sessions.new.entries) host.new }
+        (serving keep.old sessions.old.entries before) host.old
+        (serving keep.new sessions.new.entries after) host.new }
     ensures reads { ReadsCame K.Keep moment
         ((places_of sessions.old.entries).session conn) piece.now keep.old keep.new }
     ensures later { K.faults keep.old ≤ K.faults keep.new }

@@ -5,7 +5,7 @@ ghost use Rattle.edge_io.specs.Events.{piece_len as len_of};
 ghost use Rattle.node_serve.specs.Hosted.{ServesAt, TakesAt};
 ghost use Rattle.node_serve.specs.Ends.{is_stop as stops};
 
-use crate::node::Node;
+use crate::node::{Node, is_stop};
 use arch_model::Keep;
 use edge_io::{Host, What};
 use std::alloc::{AllocError, Global};
@@ -43,7 +43,7 @@ pub(crate) enum Taken {
 /// as are allowed, or the host fails. It isn't asked again after it failed.
 ///
 /// Each event does what `Node::turn` says. Also where the keeper holds no archive, as after a file was
-/// found damaged, it changes nothing of other connections.
+/// found damaged, it changes nothing of other connections, but of those whose sessions idle.
 ///
 /// A crash since the call began leaves an archive that stood before it or after one of the acts, or
 /// one that was in doubt there. Between two events the disk's count of faults is the keeper's own.
@@ -116,10 +116,10 @@ fn take_one<K: Keep, H: Host>(node: &mut Node<K>, host: &mut H, buffer: &mut [u8
 fn after(what: What) -> Taken
     ensures { result ≡ (if stops what then Taken.Stops else Taken.Went) }
 {
-    match what {
-        What::Stop => Taken::Stops,
-        _ => Taken::Went,
+    if is_stop(what) {
+        return Taken::Stops;
     }
+    Taken::Went
 }
 
 /// Returns the length of the piece that comes with an event.

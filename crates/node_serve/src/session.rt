@@ -1,22 +1,28 @@
 //! A session of one connection, and the answer to a piece.
 //! Writes the disk; syncs.
-ghost use Rattle.std.specs.Prelude.{◌≡◌, ◌≤◌, ℕ, List, true, Result};
+ghost use Rattle.std.specs.Prelude.{◌≡◌, ◌≤◌, ℕ, List, true, None, Result};
 ghost use Rattle.arch_base.specs.Moments.{last_moment};
 ghost use Rattle.arch_model.specs.Keeping.{MatchesKnown};
 ghost use Rattle.arch_model.specs.Next.{continues};
-ghost use Rattle.arch_model.specs.Standing.{LastKnown};
+ghost use Rattle.arch_model.specs.Archives.{Archive};
+ghost use Rattle.arch_model.specs.Standing.{LastKnown, standing};
 ghost use Rattle.edge_io.specs.Phrases.{SaysTo};
-ghost use Rattle.line_door.specs.Acts.{at_sink};
+ghost use Rattle.line_door.specs.Acts.{Acts, at_sink, held_if};
 ghost use Rattle.node_serve.specs.Hosted.{ElsewhereStays};
 ghost use Rattle.node_serve.specs.World.{at_host, outside_at};
-ghost use Rattle.node_serve.specs.Doors.{unopened_words, with_piece};
+ghost use Rattle.node_serve.specs.Doors.{door_of as door_of_session, unopened_words, with_piece};
 ghost use Rattle.node_serve.specs.Nodes.{ReopensForPiece, AnswersPiece, FedFrom, ReadsAt};
+ghost use Rattle.node_serve.specs.Suiting.{SessionSuits};
+ghost use Rattle.node_serve.specs.Updates.{idles, said_update};
 
-use answer_lines::say_unopened;
-use arch_model::{Keep, Next, OpenRefusal};
+use crate::welcome::say_refusal;
+use arch_model::{Keep, Next, OpenRefusal, Shelf};
 use control_door::Session as ControlSession;
-use edge_io::{ConnSink, Host, Sink, SinkFault};
+use edge_io::{ConnSink, Door, Host, Sink, SinkFault};
 use http_front::HttpSession;
+use imap_session::ImapSession;
+use keep_course::Refusal;
+use lmtp_door::LmtpSession;
 use nntp_reader::NntpSession;
 use pop3_reader::Pop3Session;
 
@@ -31,6 +37,22 @@ pub enum Session {
     Pop(Pop3Session),
     /// At the door of pages.
     Http(HttpSession),
+    /// At the door of mail systems that hand over mail.
+    Lmtp(LmtpSession),
+    /// At the door of clients that read mail in place.
+    Imap(ImapSession),
+}
+
+impl Session {
+    /// Returns whether the session idles.
+    pub(crate) fn is_idle(&self) -> bool
+        ensures { result ≡ idles self.now }
+    {
+        match self {
+            Session::Imap(client) => client.is_idle(),
+            _ => false,
+        }
+    }
 }
 
 /// Answers a piece that came to a session of a connection. Returns whether the session continues.
@@ -118,15 +140,24 @@ fn say_shut<O: Sink>(
     moment: u64,
     out: &mut O,
 ) -> Result<(), SinkFault>
-    requires moment { moment ≤ last_moment }
+    requires { moment ≤ last_moment }
     ensures said { SaysTo O.Sink (unopened_words moment session.now refusal) out.old out.new result }
     ensures sink { O.alike out.old out.new }
 {
+    say_refusal(door_of(session), Refusal::Unopened(refusal), moment, out)
+}
+
+/// Returns the door of a session.
+fn door_of(session: &Session) -> Door
+    ensures { result ≡ door_of_session session.now }
+{
     match session {
-        Session::Control(_) => say_unopened(refusal, out),
-        Session::News(_) => nntp_reader::say_unopened(refusal, out),
-        Session::Pop(_) => pop3_reader::say_unopened(refusal, out),
-        Session::Http(_) => http_front::say_unopened(refusal, moment, out),
+        Session::Control(_) => Door::Control,
+        Session::News(_) => Door::Nntp,
+        Session::Pop(_) => Door::Pop3,
+        Session::Http(_) => Door::Http,
+        Session::Lmtp(_) => Door::Lmtp,
+        Session::Imap(_) => Door::Imap,
     }
 }
 
@@ -142,6 +173,7 @@ fn feed<K: Keep, O: Sink>(
     requires ready { K.ready keep.old ≡ true }
     requires moment { moment ≤ last_moment }
     ensures fed { (s : LastKnown) → MatchesKnown K.Keep keep.old s
+        → SessionSuits s.archive session.old
         → FedFrom K.Keep moment (with_piece session.old piece.now) s keep.old
         (at_sink O.Sink out.old (K.faults keep.old))
         (continues result) session.new keep.new
@@ -155,5 +187,46 @@ fn feed<K: Keep, O: Sink>(
         Session::News(reader) => reader.feed(piece, moment, keep, out),
         Session::Pop(client) => client.feed(piece, moment, keep, out),
         Session::Http(pages) => pages.feed(piece, moment, keep, out),
+        Session::Lmtp(mail) => mail.feed(piece, moment, keep, out),
+        Session::Imap(client) => client.feed(piece, moment, keep, out),
+    }
+}
+
+/// Tells the client of a session that idles what changed, through its connection. Returns whether the
+/// session continues.
+///
+/// A session that doesn't idle is left alone.
+pub(crate) fn update_one<S: Shelf, H: Host>(
+    session: &mut Session,
+    shelf: &S,
+    conn: u32,
+    host: &mut H,
+) -> Next
+    requires ready { S.ready shelf.now ≡ true }
+    ensures told { (a : Archive) (disk : ℕ) → S.holds shelf.now a → SessionSuits a session.old
+        → Acts (said_update (standing a None) session.old)
+        (outside_at conn (at_host H.Host host.old disk))
+        (held_if (continues result) session.new) (standing a None)
+        (outside_at conn (at_host H.Host host.new disk)) }
+    ensures host { ElsewhereStays H.Host conn host.old host.new }
+{
+    let mut sink = ConnSink {
+        host: &mut *host,
+        conn,
+    };
+    tell_session(session, shelf, &mut sink)
+}
+
+/// Tells the client of a session that idles what changed. Returns whether the session continues.
+fn tell_session<S: Shelf, O: Sink>(session: &mut Session, shelf: &S, out: &mut O) -> Next
+    requires ready { S.ready shelf.now ≡ true }
+    ensures told { (a : Archive) (disk : ℕ) → S.holds shelf.now a → SessionSuits a session.old
+        → Acts (said_update (standing a None) session.old) (at_sink O.Sink out.old disk)
+        (held_if (continues result) session.new) (standing a None) (at_sink O.Sink out.new disk) }
+    ensures sink { O.alike out.old out.new }
+{
+    match session {
+        Session::Imap(client) => client.update(shelf, out),
+        _ => Next::Go,
     }
 }

@@ -65,6 +65,7 @@ fn is_refused(alloc: Global, door: &[u8], word: &[u8]) -> bool {
 fn the_257th_session_is_refused(rt: HostRuntime) {
     assert!(rt; is_refused(rt.alloc(), b"control", b"14 busy\n"));
     assert!(rt; is_refused(rt.alloc(), b"nntp", b"400 busy\r\n"));
+    assert!(rt; is_refused(rt.alloc(), b"imap", b"* BYE busy\r\n"));
 }
 
 /// What the 257th connection gets at the door of pages, at the moment of its opening.

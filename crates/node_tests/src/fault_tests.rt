@@ -1,9 +1,10 @@
 //! Sends that are lost, and disks that fail.
-use crate::served::{ACCEPTED, DELIVERED, host, joined, served_on, served_plain, settings};
+use crate::served::{ACCEPTED, DELIVERED, host, joined, served_on, served_plain};
 use arch_base::Numbers;
 use archive_core::Engine;
 use disk_model::MemDisk;
 use edge_io::MemHost;
+use fixtures::{LIMIT, MAX, settings};
 use node_serve::ServeEnd;
 use std::alloc::Global;
 
@@ -37,7 +38,7 @@ fn count_cut(host: &MemHost, whole: &MemHost) -> Option<u64> {
 
 /// Returns whether the call with this ordinal either was no send that is made, or its loss ended one
 /// connection alone.
-fn ends_one(alloc: Global, text: &[u8], whole: &MemHost, ordinal: u64) -> bool {
+pub(crate) fn ends_one(alloc: Global, text: &[u8], whole: &MemHost, ordinal: u64) -> bool {
     match served_plain(alloc, text, &[ordinal]) {
         None => false,
         Some((ServeEnd::HostFault, _host)) => true,
@@ -80,7 +81,7 @@ const UNREAD: &[u8] = b"201 piv2 reader\r\n211 1 1 1 list\r\n403 disk fault\r\n"
 
 /// Makes an archive on a disk of which one call fails.
 pub(crate) fn made_over_failing(alloc: Global, ordinal: u64) -> Option<Engine<MemDisk>> {
-    let config = settings()?;
+    let config = settings(LIMIT, MAX, false)?;
     let mut listed = Numbers::new(alloc);
     listed.push(ordinal).ok()?;
     let disk = MemDisk::new(alloc, listed);

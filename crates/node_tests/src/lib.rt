@@ -3,11 +3,13 @@
 #![tactic(auto)]
 
 #[cfg(test)]
+mod browsing_tests;
+#[cfg(test)]
 mod crowd_tests;
 #[cfg(test)]
 mod fault_tests;
 #[cfg(test)]
-mod page_tests;
+mod idling_tests;
 #[cfg(test)]
 mod reading_tests;
 #[cfg(test)]

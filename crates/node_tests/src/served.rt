@@ -1,10 +1,9 @@
 //! Nodes that serve the events of scripts.
-ghost use Rattle.std.specs.Prelude.{◌≤◌, IfSome};
-ghost use Rattle.arch_base.specs.Configs.{IsConfig};
-
-use arch_base::{Bytes, Config, Name, Numbers};
+use arch_base::{Bytes, Numbers};
 use arch_model::Keep;
+use archive_fixtures::in_memory;
 use edge_io::{MemHost, script};
+use fixtures::{LIMIT, MAX};
 use mem_archive::MemArchive;
 use node_serve::{Node, ServeEnd, serve};
 use std::alloc::Global;
@@ -19,24 +18,9 @@ pub(crate) const ACCEPTED: &[u8] = b"1 ok 1 1d023c572ccd6f3cc82ae855343346b043ad
 /// More events than any of these scripts has.
 pub(crate) const MANY: u64 = 1000;
 
-/// Returns the settings of an archive of the name `list`.
-pub(crate) fn settings() -> Option<Config>
-    ensures { IfSome result (λ made. IsConfig made) }
-{
-    let name = Name::read(b"list")?;
-    Some(Config {
-        name,
-        limit: 1_073_741_824,
-        slice: 50_000,
-        max: 2_147_483_647,
-        mirror: false,
-        born: 1,
-    })
-}
-
 /// Returns an archive in memory without messages.
 pub(crate) fn plain(alloc: Global) -> Option<MemArchive> {
-    Some(MemArchive::new(alloc, settings()?))
+    in_memory(alloc, LIMIT, MAX, false)
 }
 
 /// Returns texts in order as one.

@@ -20,4 +20,4 @@ pub returns-in-Ok-Some-clause-taken : goal.returns-in-Ok-Some-clause-taken
 returns-in-Ok-Some-clause-taken g c =
     takes-one (keeper g.K.Shelf g.K.Keep) c.after.result (is_stop c.in-Ok-Some.event.what) c.args.node.now c.turn.new.self _ _ _ _ _ _ _ _ _ _ c.after.ensures
     (took-event (keeper g.K.Shelf g.K.Keep) c.in-Ok-Some.event c.next.new.into c.piece_len-len.result c.args.node.now c.turn.new.self _ _ _ _ _ _ _ _ _ _ _ _ c.piece_len-len.ensures (rw c.in-Ok-Some.field-0-is at c.in-Ok-Some.ensures.gave)
-    (outer-same _ _ _ _ _ _ _ _ _ c.next.ensures.taken c.next.ensures.closings c.next.ensures.lost c.next.ensures.closed_at) c.turn.ensures.turned c.turn.ensures.anyway c.turn.ensures.reads refl c.turn.ensures.events.left_same c.turn.ensures.events.given_same (λ past noted. c.in-Ok-Some.ensures.noted past noted) c.turn.ensures.events.recorded_same)
+    (outer-same _ _ _ _ _ _ _ _ _ c.next.ensures.taken c.next.ensures.closings c.next.ensures.lost c.next.ensures.closed_at) c.turn.ensures.turned c.turn.ensures.events.left_same c.turn.ensures.events.given_same (λ past noted. c.in-Ok-Some.ensures.noted past noted) c.turn.ensures.events.recorded_same)

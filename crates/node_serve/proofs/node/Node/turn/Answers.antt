@@ -1,66 +1,13 @@
 use Rattle.std.proofs.Common.{refl}
 use Rattle.arch_model.specs.KeeperRecord.{keeper}
-use Rattle.node_serve.specs.Nodes.{places_of}
-use Rattle.node_serve.proofs.Turning.{turns-still, same-world, ended-world}
+use Rattle.node_serve.specs.Nodes.{stage}
+use Rattle.node_serve.specs.World.{at_host}
+use Rattle.node_serve.proofs.Suits.{turns-by}
 use Rattle.node_serve.proofs.node.Node.turn.Goals as goal
 
-pub returns-in-Opened-clause-turned : goal.returns-in-Opened-clause-turned
-returns-in-Opened-clause-turned g c = rw (← c.self.view_is) (λ s fits.
-    turns-still (keeper g.K.Shelf g.K.Keep) (c.args.event.now, c.args.piece.now) s c.self.inside.keep c.self.inside.sessions.entries c.admit.new.sessions.entries _ _ fits (rw c.in-Opened.is (c.admit.ensures.made (g.K.Shelf.faults c.self.inside.keep) s, refl)) (rw c.in-Opened.is refl))
-
-pub returns-in-Bytes-clause-turned : goal.returns-in-Bytes-clause-turned
-returns-in-Bytes-clause-turned g c = rw (← c.self.view_is, c.in-Bytes.is) (c.feed.ensures.turned _)
-
-pub returns-in-Ended-clause-turned : goal.returns-in-Ended-clause-turned
-returns-in-Ended-clause-turned g c = rw (← c.self.view_is) (λ s fits.
-    turns-still (keeper g.K.Shelf g.K.Keep) (c.args.event.now, c.args.piece.now) s c.self.inside.keep c.self.inside.sessions.entries c.end.new.sessions.entries _ _ fits (rw c.in-Ended.is (ended-world c.in-Ended.conn (places_of c.self.inside.sessions.entries) (places_of c.end.new.sessions.entries) s _ c.end.ensures, refl)) (rw c.in-Ended.is refl))
-
-pub returns-in-Quiet-clause-turned : goal.returns-in-Quiet-clause-turned
-returns-in-Quiet-clause-turned g c = rw (← c.self.view_is) (λ s fits.
-    turns-still (keeper g.K.Shelf g.K.Keep) (c.args.event.now, c.args.piece.now) s c.self.inside.keep c.self.inside.sessions.entries c.self.inside.sessions.entries _ _ fits (rw c.in-Quiet.is (same-world (keeper g.K.Shelf g.K.Keep) s _ _, refl)) (rw c.in-Quiet.is refl))
-
-pub returns-in-Stop-clause-turned : goal.returns-in-Stop-clause-turned
-returns-in-Stop-clause-turned g c = rw (← c.self.view_is) (λ s fits.
-    turns-still (keeper g.K.Shelf g.K.Keep) (c.args.event.now, c.args.piece.now) s c.self.inside.keep c.self.inside.sessions.entries c.self.inside.sessions.entries _ _ fits (rw c.in-Stop.is (same-world (keeper g.K.Shelf g.K.Keep) s _ _, refl)) (rw c.in-Stop.is refl))
-
-pub returns-in-Opened-clause-anyway : goal.returns-in-Opened-clause-anyway
-returns-in-Opened-clause-anyway g c = rw (← c.self.view_is, c.in-Opened.is) (record {
-  kept = refl;
-  turned = λ s. (c.admit.ensures.made (g.K.Shelf.faults c.self.inside.keep) s, refl);
-})
-
-pub returns-in-Bytes-clause-anyway : goal.returns-in-Bytes-clause-anyway
-returns-in-Bytes-clause-anyway g c = rw (← c.self.view_is, c.in-Bytes.is) (c.feed.ensures.anyway _)
-
-pub returns-in-Ended-clause-anyway : goal.returns-in-Ended-clause-anyway
-returns-in-Ended-clause-anyway g c = rw (← c.self.view_is, c.in-Ended.is) (record {
-  kept = refl;
-  turned = λ s. (ended-world c.in-Ended.conn (places_of c.self.inside.sessions.entries) (places_of c.end.new.sessions.entries) s _ c.end.ensures, refl);
-})
-
-pub returns-in-Quiet-clause-anyway : goal.returns-in-Quiet-clause-anyway
-returns-in-Quiet-clause-anyway g c = rw (← c.self.view_is, c.in-Quiet.is) (record {
-  kept = refl;
-  turned = λ s. (same-world (keeper g.K.Shelf g.K.Keep) s _ _, refl);
-})
-
-pub returns-in-Stop-clause-anyway : goal.returns-in-Stop-clause-anyway
-returns-in-Stop-clause-anyway g c = rw (← c.self.view_is, c.in-Stop.is) (record {
-  kept = refl;
-  turned = λ s. (same-world (keeper g.K.Shelf g.K.Keep) s _ _, refl);
-})
-
-pub returns-in-Opened-clause-reads : goal.returns-in-Opened-clause-reads
-returns-in-Opened-clause-reads g c = rw (← c.self.view_is, c.in-Opened.is) refl
-
-pub returns-in-Bytes-clause-reads : goal.returns-in-Bytes-clause-reads
-returns-in-Bytes-clause-reads g c = rw (← c.self.view_is, c.in-Bytes.is) c.feed.ensures.reads
-
-pub returns-in-Ended-clause-reads : goal.returns-in-Ended-clause-reads
-returns-in-Ended-clause-reads g c = rw (← c.self.view_is, c.in-Ended.is) refl
-
-pub returns-in-Quiet-clause-reads : goal.returns-in-Quiet-clause-reads
-returns-in-Quiet-clause-reads g c = rw (← c.self.view_is, c.in-Quiet.is) refl
-
-pub returns-in-Stop-clause-reads : goal.returns-in-Stop-clause-reads
-returns-in-Stop-clause-reads g c = rw (← c.self.view_is, c.in-Stop.is) refl
+pub returns-clause-turned : goal.returns-clause-turned
+returns-clause-turned g c = (
+  stage c.act.new.self (at_host g.H.Host c.act.new.host (g.K.Shelf.faults c.act.new.self.keep)),
+  turns-by (keeper g.K.Shelf g.K.Keep) c.suiting_law.ensures (c.args.event.now, c.args.piece.now) c.args.self.now c.act.new.self c.update.new.self _ _ _ c.requires.moment c.act.ensures.acted c.act.ensures.anyway c.act.ensures.reads c.act.ensures.noted
+      c.update.ensures.updated c.update.ensures.anyway c.update.ensures.alone c.update.ensures.shut refl refl,
+)
