@@ -11,3 +11,4 @@ pub mod Rows
 pub mod PlayedEvents
 pub mod ServedNumbers
 pub mod ServedDisk
+pub mod Promises

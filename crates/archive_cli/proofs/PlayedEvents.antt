@@ -5,20 +5,27 @@ use Rattle.std.proofs.lemmas.List.{append-nil}
 use Rattle.std.proofs.Math.Seq.{take-nil}
 use Rattle.arch_base.specs.declared.config.Config.{Config}
 use Rattle.arch_model.specs.Archives.{Archive, empty_archive}
+use Rattle.arch_model.specs.Keeping.{Keeper}
 use Rattle.arch_model.specs.Standing.{standing}
+use Rattle.arch_model.specs.Validity.{IsArchive}
 use Rattle.edge_io.specs.Events.{line_of, after_line, spelled}
 use Rattle.edge_io.specs.Frames.{Outputs, FirstFrames, frames_of}
 use Rattle.edge_io.specs.Hosts.{before_left}
 use Rattle.edge_io.specs.MemHosts.{unclosed}
 use Rattle.edge_io.specs.Scripts.{Arrival, IsScript, spelled_all}
 use Rattle.node_serve.specs.Ends.{ServingEnds, NoStop, is_stop, before_all}
-use Rattle.node_serve.specs.Nodes.{OpenSessions, outputs_asked, world_of}
+use Rattle.node_serve.specs.Nodes.{OpenSessions, Serving, NodeSuits, outputs_asked, places_in, world_of}
 use Rattle.node_serve.specs.Laws.{PlainLaws}
 use Rattle.node_serve.specs.Plain.{PlainServed, plain_turns, last_world}
+use Rattle.node_serve.specs.Suiting.{SessionSuitsIf, NotedIs}
+use Rattle.node_serve.specs.Updates.{idles_if}
 use Rattle.node_serve.proofs.PlainTurns.{none-counted}
 use Rattle.node_serve.specs.Turns.{Turn, Served}
 use Rattle.node_serve.specs.World.{HostState, NodeState}
 use Rattle.node_serve.specs.declared.serving.ServeEnd.{ServeEnd}
+use Rattle.node_serve.specs.declared.session.Session.{Session}
+use Rattle.node_serve.specs.declared.updates.Idling.{Idling}
+use Rattle.node_serve.specs.declared.updates.Idling.TheVariants.{Nobody, Told}
 use Rattle.node_serve.specs.declared.serving.ServeEnd.TheVariants as end
 use Rattle.archive_cli.specs.Laws.{PlainIsTranscript}
 use Rattle.archive_cli.specs.Program.{PlaysPart, input_limit}
@@ -87,6 +94,17 @@ fresh-of a p o none count untaken open_all disk lost = record {
   disk = disk;
   lost = lost;
 }
+
+-- A new node over a valid archive suits its clients, of which it has none.
+pub new-suits : {K : Type 0} (g : Keeper K) (a : Archive) (node : Serving K) (o : HostState) → IsArchive a → ((c : ℕ) → (places_in node).session c ≡ None) → node.idling ≡ Nobody → NodeSuits g (standing a None) node o
+new-suits {K} g a node o valid none nobody = record {
+  clients = record { valid = valid; clients = λ c. subst (λ (x : Option Session). SessionSuitsIf a x) (sym (none c)) tt; in_doubt = λ b is. absurd (cc is) };
+  noted = subst (λ (x : Idling). NotedIs x (world_of (standing a None) (places_in node) o)) (sym nobody) (λ c less. ap idles_if (none c));
+  ready = λ told. absurd (apart (sym nobody ∙ told));
+}
+  where
+    apart : Nobody ≡ Told → ⊥
+    apart is = absurd (cc is)
 
 -- The events of a script that were served from a fresh world until a stop or the script's end.
 module _ (config : Config) (script es left : List Arrival) (none : Bool) (turns faults faults' : ℕ) (first after : NodeState) (taken : List Turn) (is : Some script ≡ before_all es (Some left)) (fresh : IsFreshWorld (empty_archive config) first) (served : Served es first taken after) (ends : ServingEnds end.Stopped none es turns (Some left) faults faults') where

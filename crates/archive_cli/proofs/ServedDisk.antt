@@ -1,5 +1,5 @@
 -- What serving the archive on a disk did there.
-use Rattle.std.proofs.Common.{◌≡◌, ◌≤◌, ℕ, Bool, true, false, List, [], ◌∷◌, ◌++◌, Option, Some, None, Result, Ok, Err, inl, inr, refl, sym, ap, subst, arith, ◌∙◌}
+use Rattle.std.proofs.Common.{◌≡◌, ◌≤◌, ℕ, Bool, true, false, List, [], ◌∷◌, ◌++◌, Option, Some, None, Result, Err, inl, inr, refl, sym, ap, subst, arith, ◌∙◌}
 use Rattle.std.specs.List.{Contains}
 use Rattle.std.proofs.lemmas.List.Elements.{Contains-append_left, Contains-append_right}
 use Rattle.std.proofs.lemmas.Bool.{false≢true}
@@ -20,7 +20,7 @@ use Rattle.arch_model.specs.Standing.{LastKnown, standing, one_of}
 use Rattle.arch_model.specs.declared.opening.OpenRefusal.{OpenRefusal}
 use Rattle.arch_model.specs.declared.opening.OpenRefusal.TheVariants as opening
 use Rattle.arch_model.proofs.Keepers.{has-own, fits-held, all-split}
-use Rattle.archive_core.specs.Engines.{Owning, HoldsArchive, FilesAre, LeftWithCache, Leaves, AllRecoverOrBare, is_ready, engine_of}
+use Rattle.archive_core.specs.Engines.{Owning, HoldsArchive, LeftWithCache, Leaves, AllRecoverOrBare, engine_of}
 use Rattle.archive_core.proofs.Engines.{all_or_bare, cache_is, read_in, reopening-from}
 use Rattle.store_finding.specs.Files.{as_read}
 use Rattle.epoch_store.specs.Opens.{ReadsWith, RecoversOfWith, AllRecoverWith, IsOnlySynced, SyncsFirst}
@@ -32,13 +32,18 @@ use Rattle.keep_course.specs.Courses.{afters, archives_of}
 use Rattle.keep_course.proofs.Courses.{all-own, kept-left}
 use Rattle.edge_io.specs.declared.events.What.{What}
 use Rattle.edge_io.specs.declared.events.What.TheVariants as what
-use Rattle.node_serve.specs.Doors.{SessionAtWork, Came, said, is_asked, reopens}
-use Rattle.node_serve.specs.Nodes.{Serving, Stage, stage, CameKept, TurnKeptBy, TurnKept, ActsAlong, StepsTo, RunsTo, places_in, world_of}
+use Rattle.node_serve.specs.Doors.{SessionAtWork, Came, doors_at}
+use Rattle.node_serve.specs.Ends.{is_stop}
+use Rattle.node_serve.specs.Nodes.{Serving, EventStages, stage, CameKept, TurnKeptBy, TurnKept, ActsAlong, ReopenedIf, UpdatesKept, NodeSuits, StepsTo, RunsTo, places_in, world_of}
 use Rattle.node_serve.specs.declared.session.Session.{Session}
 use Rattle.node_serve.specs.Turns.{Turn, Served, passed_in}
+use Rattle.node_serve.specs.Updates.{any_idles, UpdatedUnless}
 use Rattle.node_serve.specs.World.{HostState, NodeState, outside_at}
-use Rattle.node_serve.proofs.Running.{turned-has}
+use Rattle.node_serve.specs.declared.updates.Idling.TheVariants.{Nobody}
+use Rattle.node_serve.proofs.Running.{acted-has, updated-has, updates-pass}
+use Rattle.archive_core.specs.Walks.{store-valid}
 use Rattle.archive_cli.specs.Serving.{ServeRun, Shut, Ended, HostGiven, ServesDisk, StoodFor, StoodAlong, EnginesAlong, ActedAlong, ServedOn}
+use Rattle.archive_cli.proofs.PlayedEvents.{new-suits}
 use Rattle.archive_cli.proofs.ServedNumbers.{served-follows}
 
 -- Files that stand for one of some archives stand for one of more.
@@ -73,17 +78,25 @@ shut-faults g turns (Ended how) old new i j recorded recorded' served is = absur
 
 -- Turns by steps.
 module _ {K : Type 0} (g : Keeper K) where
+  -- What a crash leaves after updates, it leaves since before them.
+  pub before-updates : (stops : Bool) (old : K) (w : NodeState) (reopened : List LastKnown) (new last : K) (v : NodeState) (later : List LastKnown) → UpdatedUnless stops w reopened v → UpdatesKept g stops old w new v → CrashesLeaveOnly g.leaves new last (v.standing ∷ later)
+      → CrashesLeaveOnly g.leaves old last (w.standing ∷ later)
+  before-updates stops old w reopened new last v later updated kept onward = λ start may has since.
+      onward start may (updated-has may stops w reopened v updated has.0, has.1) (updates-pass g stops old w new v kept start may tt since)
+
   -- A crash in them leaves an archive of one of their standings.
-  pub steps-pass : (es : List Arrival) (w : NodeState) (ms : List (Stage K)) (ts : List Turn) (v : NodeState) (k m : K) → Served es w ts v → StepsTo g es k w ms ts m → CrashesLeaveOnly g.leaves k m (w.standing ∷ passed_in ts)
+  pub steps-pass : (es : List Arrival) (w : NodeState) (ms : List (EventStages K)) (ts : List Turn) (v : NodeState) (k m : K) → Served es w ts v → StepsTo g es k w ms ts m → CrashesLeaveOnly g.leaves k m (w.standing ∷ passed_in ts)
   steps-pass [] w [] [] v k m run steps = λ start may has since. subst (λ (x : K). g.leaves start x may) (sym steps) since
   steps-pass [] w (x ∷ ms) [] v k m run never = absurd never
   steps-pass [] w ms (t ∷ ts) v k m never steps = absurd never
   steps-pass (e ∷ es) w ms [] v k m never steps = absurd never
   steps-pass (e ∷ es) w [] (t ∷ ts) v k m run never = absurd never
   steps-pass (e ∷ es) w (x ∷ ms) (t ∷ ts) v k m run steps = λ start may has since.
-      let parts = all-split may t.passed (passed_in ts) has.1 in
-      let now = turned-has may e w t.passed t.after run.0 has.0 parts.0 in
-      steps-pass es t.after ms ts v x.node.keep m run.1 steps.3 start may (now, parts.1) (steps.1 start may (has.0, parts.0) since)
+      let parts = all-split may t.passed (t.reopened ++ passed_in ts) has.1 in
+      let after = all-split may t.reopened (passed_in ts) parts.1 in
+      let between = acted-has may e w t.passed t.between run.0.0 has.0 parts.0 in
+      before-updates (is_stop e.0.what) x.acted.node.keep t.between t.reopened x.after.node.keep m t.after (passed_in ts) run.0.1 steps.0.updates
+      (steps-pass es t.after ms ts v x.after.node.keep m run.1 steps.1) start may (between, after.1) (steps.0.passes start may (has.0, parts.0) since)
 
 -- The last of some standings.
 abbrev last-after : LastKnown → List LastKnown → LastKnown
@@ -170,7 +183,7 @@ module _ {D : Type 0} (g : Disk D)
   stood-acts moment old m last w [] (x ∷ ms) later fits never onward = absurd never
   stood-acts moment old m last w (k ∷ ks) [] later fits never onward = absurd never
   stood-acts moment old m last w (k ∷ ks) (x ∷ ms) later fits kept onward =
-      let rest = kept-left (engine_of g) (said moment) is_asked reopens k m x ks ms kept.1 in (
+      let rest = kept-left (engine_of g) (doors_at moment) k m x ks ms kept.1 in (
         moved-later old k w.after x.after fits kept.0.moves.passes,
         stood-from k last x.after (afters ms ++ later) kept.0.moves.fits (passes-onward (Leaves g) k m last x.after (afters ms) later rest onward),
         stood-acts moment k m last x ks ms later kept.0.moves.fits kept.1 onward,
@@ -208,31 +221,45 @@ module _ {D : Type 0} (g : Disk D)
       by what.Quiet still = still
       by what.Stop still = still
 
+  -- Updates don't go back.
+  reopened-later : (idle : Bool) (k : Owning D) (w : NodeState) (m : Owning D) (v : NodeState) → MatchesKnown (engine_of g) k w.standing → ReopenedIf (engine_of g) idle k w m v → g.moment k.disk ≤ g.moment m.disk
+  reopened-later true k w m v fits kept = moved-later k m w.standing v.standing fits kept.moves.passes
+  reopened-later false k w m v fits kept = subst (λ (x : Owning D). g.moment k.disk ≤ g.moment x.disk) (sym kept) (omega arith)
+
+  updates-later : (stops : Bool) (k : Owning D) (w : NodeState) (m : Owning D) (v : NodeState) → MatchesKnown (engine_of g) k w.standing → UpdatesKept (engine_of g) stops k w m v → g.moment k.disk ≤ g.moment m.disk
+  updates-later true k w m v fits kept = subst (λ (x : Owning D). g.moment k.disk ≤ g.moment x.disk) (sym kept) (omega arith)
+  updates-later false k w m v fits kept = reopened-later (any_idles w.session) k w m v fits kept
+
   -- Turns in order.
-  acted-all : (es : List Arrival) (w : NodeState) (ms : List (Stage (Owning D))) (ts : List Turn) (v : NodeState) (k m : Owning D) → Served es w ts v → MatchesKnown (engine_of g) k w.standing → StepsTo (engine_of g) es k w ms ts m → ActedAlong g m.disk es k w ms ts
+  acted-all : (es : List Arrival) (w : NodeState) (ms : List (EventStages (Owning D))) (ts : List Turn) (v : NodeState) (k m : Owning D) → Served es w ts v → MatchesKnown (engine_of g) k w.standing → StepsTo (engine_of g) es k w ms ts m → ActedAlong g m.disk es k w ms ts
   acted-all [] w [] [] v k m run fits steps = tt
   acted-all [] w (x ∷ ms) [] v k m run fits never = absurd never
   acted-all [] w ms (t ∷ ts) v k m never fits steps = absurd never
   acted-all (e ∷ es) w ms [] v k m never fits steps = absurd never
   acted-all (e ∷ es) w [] (t ∷ ts) v k m run fits never = absurd never
   acted-all (e ∷ es) w (x ∷ ms) (t ∷ ts) v k m run fits steps =
-      let onward = steps-pass (engine_of g) es t.after ms ts v x.node.keep m run.1 steps.3 in (
-        turn-stood e k x.node.keep m w t.passed t.after (passed_in ts) fits onward steps.2,
-        stood-from x.node.keep m t.after.standing (passed_in ts) steps.0 onward,
-        acted-all es t.after ms ts v x.node.keep m run.1 steps.0 steps.3,
+      let onward = steps-pass (engine_of g) es t.after ms ts v x.after.node.keep m run.1 steps.1 in
+      let onward-acted = before-updates (engine_of g) (is_stop e.0.what) x.acted.node.keep t.between t.reopened x.after.node.keep m t.after (passed_in ts) run.0.1 steps.0.updates onward in (
+        record {
+          acts = turn-stood e k x.acted.node.keep m w t.passed t.between (passed_in ts) fits onward-acted steps.0.kept;
+          updates = steps.0.updates;
+          moment = updates-later (is_stop e.0.what) x.acted.node.keep t.between x.after.node.keep t.after steps.0.acted_fits steps.0.updates;
+          stood = stood-from x.after.node.keep m t.after.standing (passed_in ts) steps.0.fits onward;
+        },
+        acted-all es t.after ms ts v x.after.node.keep m run.1 steps.0.fits steps.1,
       )
 
   -- An archive was opened, and events were served by a node.
-  pub served-on : RecoversSomeOne → CachesOne → FollowsItself → CommandFollows → (a : Archive) (cache : List ℕ) (old : D) (e : Owning D) (node new : Serving (Owning D)) (arrivals : List Arrival) (stages : List (Stage (Owning D))) (o p : HostState) → node.keep ≡ e → IsStoreWith e.view cache a (g.content e.disk) → e.views ≡ views_of (live a.entries) → WhereTold IsSettled (g.content e.disk)
+  pub served-on : RecoversSomeOne → CachesOne → FollowsItself → CommandFollows → (a : Archive) (cache : List ℕ) (old : D) (e : Owning D) (node new : Serving (Owning D)) (arrivals : List Arrival) (stages : List (EventStages (Owning D))) (o p : HostState) → node.keep ≡ e → IsStoreWith e.view cache a (g.content e.disk) → e.views ≡ views_of (live a.entries) → WhereTold IsSettled (g.content e.disk)
       → SyncsFirst g old e.disk
       → RunsBetween g old e.disk → BothTold WentBetween (g.content old) (g.content e.disk)
-      → ((t : LastKnown) → MatchesKnown (engine_of g) node.keep t → RunsTo (engine_of g) arrivals t node o stages new p) → ReadsWith cache a (g.content old)
+      → ((c : ℕ) → (places_in node).session c ≡ None) → node.idling ≡ Nobody → ((t : LastKnown) → MatchesKnown (engine_of g) node.keep t → NodeSuits (engine_of g) t node o → RunsTo (engine_of g) arrivals t node o stages new p) → ReadsWith cache a (g.content old)
       → ServedOn g a old e.disk new.keep.disk arrivals (stage node o) stages (stage new p)
-  served-on one caches itself commands a cache old e node new arrivals stages o p keep store rows still sync crash_beside went runs reads =
+  served-on one caches itself commands a cache old e node new arrivals stages o p keep store rows still sync crash_beside went none nobody runs reads =
       let held : HoldsArchive g.content e a = (cache, store, rows, still) in
       let start : MatchesKnown (engine_of g) node.keep (standing a None) =
       subst (λ (k : Owning D). MatchesKnown (engine_of g) k (standing a None)) (sym keep) (fits-held (engine_of g) (λ k b own. (k.view, own.0, own.1, own.3)) holds_left e a held) in
-      let run = runs (standing a None) start in
+      let run = runs (standing a None) start (new-suits (engine_of g) a node o (store-valid e.view cache a (g.content e.disk) store) none nobody) in
       let first = world_of (standing a None) (places_in node) o in
       let last = world_of run.after (places_in new) p in
       let more = passed_in run.turns in

@@ -6,6 +6,7 @@ pub mod Program
 pub mod Printing
 pub mod Jobs
 pub mod Laws
+pub mod Promises
 pub mod Statuses
 pub mod Outcomes
 pub mod DiskCommands

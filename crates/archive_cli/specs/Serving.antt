@@ -22,13 +22,14 @@ use Rattle.epoch_store.specs.Opens.{OpensFiles, IsOnlySynced, ReadsWith, AllReco
 use Rattle.archive_core.specs.Engines.{Owning, engine_of, is_ready, RecoversOrBare, AllRecoverOrBare, BetweenSince, FilesAreOn, FilesAreWith}
 use Rattle.archive_core.specs.Openings.{LeavesKindly}
 use Rattle.answer_lines.specs.Lines.{whole_line, memory_word}
-use Rattle.node_serve.specs.Ends.{ServingEnds, given_after, before_all}
-use Rattle.node_serve.specs.Nodes.{Stage, Along, GoesAnyway, GoesReading, GoesCounting, TurnKept, ActsAlong, RunsTo, outputs_noted, places_in, world_at}
+use Rattle.node_serve.specs.Ends.{ServingEnds, is_stop, given_after, before_all}
+use Rattle.node_serve.specs.Nodes.{Stage, EventStages, Along, GoesAnyway, GoesReading, GoesCounting, TurnKept, ActsAlong, UpdatesKept, RunsTo, outputs_noted, places_in, world_at}
 use Rattle.node_serve.specs.Doors.{SessionAtWork}
 use Rattle.node_serve.specs.Turns.{Turn, passed_in}
 use Rattle.node_serve.specs.World.{HostState, NodeState, at_host}
 use Rattle.node_serve.specs.declared.serving.ServeEnd.{ServeEnd}
 use Rattle.node_serve.specs.declared.serving.ServeEnd.TheVariants as end
+use Rattle.node_serve.specs.declared.updates.Idling.TheVariants.{Nobody}
 use Rattle.archive_cli.specs.DiskCommands.{StandsAs, StaysUnopened}
 use Rattle.archive_cli.specs.OpenedFiles.{OnlySettled}
 use Rattle.archive_cli.specs.Outcomes.{refusal_line, refusal_status}
@@ -102,10 +103,11 @@ abbrev pub FollowOn : Archive → List LastKnown → Type 0
 FollowOn a [] = Unit {0}
 FollowOn a (s ∷ ss) = FollowsIn a s × FollowOn s.archive ss
 
--- Before the first event no connection has a session, and this is outside of the node.
+-- Before the first event no connection has a session, which is noted, and this is outside of the node.
 pub record IsFirstStage {K : Type 0} (first : Stage K) (out : HostState) : Type 0 where
   pub unopened : (c : ℕ) → (places_in first.node).session c ≡ None
   pub count : (places_in first.node).count ≡ 0
+  pub noted : first.node.idling ≡ Nobody
   pub out_is : first.out ≡ out
 
 -- A disk, by its content and by what each crash since a moment may have left.
@@ -150,19 +152,27 @@ module _ {D : Type 0} (g : Disk D) where
   EnginesAlong later last moment old w ks ms new =
       ActsAlong (engine_of g) moment old w ks ms new × StoodAlong later last old ks (afters ms)
 
-  -- These turns were taken in order, from one stage to the next. The disk stood so after each act of each
-  -- turn, and after each turn.
-  abbrev pub ActedAlong : D → List Arrival → Owning D → NodeState → List (Stage (Owning D)) → List Turn
-      → Type 0
+  -- One turn was taken. The disk stood so after each of its acts, and after its updates, before which the
+  -- engine was reopened if a session idled. `later` stood after the turn.
+  pub record ActedOnce (later : List LastKnown) (last : D) (e : Arrival) (old : Owning D) (w : NodeState)
+      (m : EventStages (Owning D)) (t : Turn)
+      : Type 0 where
+    pub acts : TurnKept (EnginesAlong later last) e old w t.passed m.acted.node.keep t.between
+    pub updates : UpdatesKept (engine_of g) (is_stop e.0.what) m.acted.node.keep t.between
+        m.after.node.keep t.after
+    pub moment : g.moment m.acted.node.keep.disk ≤ g.moment m.after.node.keep.disk
+    pub stood : StoodFor t.after.standing later m.after.node.keep.disk last
+
+  -- These turns were taken in order, from one stage to the next.
+  abbrev pub ActedAlong : D → List Arrival → Owning D → NodeState → List (EventStages (Owning D))
+      → List Turn → Type 0
   ActedAlong last [] old w [] [] = Unit {0}
   ActedAlong last [] old w [] (t ∷ ts) = ⊥
   ActedAlong last [] old w (m ∷ ms) ts = ⊥
   ActedAlong last (e ∷ es) old w [] ts = ⊥
   ActedAlong last (e ∷ es) old w (m ∷ ms) [] = ⊥
-  ActedAlong last (e ∷ es) old w (m ∷ ms) (t ∷ ts) =
-      TurnKept (EnginesAlong (passed_in ts) last) e old w t.passed m.node.keep t.after
-      × StoodFor t.after.standing (passed_in ts) m.node.keep.disk last
-      × ActedAlong last es m.node.keep t.after ms ts
+  ActedAlong last (e ∷ es) old w (m ∷ ms) (t ∷ ts) = ActedOnce (passed_in ts) last e old w m t
+      × ActedAlong last es m.after.node.keep t.after ms ts
 
   -- This archive was found, and the events were taken to their end, one after another through these
   -- stages, each with its replies over the archive of that moment. In each act of each event a crash leaves
@@ -179,7 +189,7 @@ module _ {D : Type 0} (g : Disk D) where
   -- none, and so it is after each crash. No number names a second message. Once the archive was opened
   -- the bytes between the gates and the bodies of the root file stay, too.
   pub record ServedOn (found : Archive) (old opened new : D) (arrivals : List Arrival)
-      (first : Stage (Owning D)) (stages : List (Stage (Owning D))) (last : Stage (Owning D))
+      (first : Stage (Owning D)) (stages : List (EventStages (Owning D))) (last : Stage (Owning D))
       : Type 0 where
     pub runs : RunsTo (engine_of g) arrivals (standing found None) first.node first.out stages
         last.node last.out
@@ -221,8 +231,9 @@ module _ {D : Type 0} (g : Disk D) where
   -- took these events and ended by them, each from one stage to the next: at a stage stand the engine,
   -- which is the disk, what is kept in memory of its archive, and whether it has to be reopened; and the
   -- sessions over it. It is ready at first. Whatever the disk held, as where a file was found damaged, an
-  -- event changed nothing of other connections, only a piece used the disk, and it read no more than it
-  -- asks for; and at each stage the count of faults is the disk's own. The events were served over the
+  -- event changed nothing of other connections, but of those whose sessions idle; only a piece, or a
+  -- reopening for one that idles, used the disk, and a piece read no more than it asks for; and at each
+  -- stage the count of faults is the disk's own. The events were served over the
   -- archive as which the files read, whatever its cache.
   --
   -- The host, whose records these are, was asked before each event, when all before it had been
@@ -242,7 +253,7 @@ module _ {D : Type 0} (g : Disk D) where
     pub first_disk : first.node.keep.disk ≡ opened
     pub first_ready : is_ready first.node.keep ≡ true
     pub first_counts : first.out.disk ≡ g.faults first.node.keep.disk
-    pub stages : List (Stage (Owning D))
+    pub stages : List (EventStages (Owning D))
     pub last : Stage (Owning D)
     pub last_disk : last.node.keep.disk ≡ new
     pub last_out : last.out ≡ j.out

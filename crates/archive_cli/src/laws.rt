@@ -2,8 +2,10 @@
 //! Pure.
 ghost use Rattle.archive_cli.specs.Jobs.{RunsOfJob};
 ghost use Rattle.archive_cli.specs.Laws.{OneJob, PlainIsTranscript, RunsInARow};
+ghost use Rattle.archive_cli.specs.Promises.{NothingIsLost, RepliesAreDefined, NumbersNameOne, PurgeLeavesNothing, CrashLeavesAnAct, ReindexChangesNoReply};
 
 use arch_model::{law_of_commands, law_of_numbers, numbers_keep_their_texts};
+use disk_model::Disk;
 use node_serve::plain_law;
 
 /// Shows that what the plain function prints of a script is a transcript of it: the one in which no
@@ -37,4 +39,28 @@ pub fn runs_in_a_row()
     numbers_keep_their_texts();
     law_of_numbers();
     law_of_commands();
+}
+
+/// Shows six promises of an archive, each of what runs of the program do.
+///
+/// * `lost`: after serving ended by itself, the next run of a command finds the archive that the last
+///   act left, with all that was acknowledged, or the one in doubt there.
+/// * `replies`: at each act of a served session, and at each update of one that idles, the connection
+///   took what the definition says, or a prefix of it.
+/// * `numbers`: no number names a second message in two archives of one run of serving, in their
+///   order.
+/// * `purge`: once a purge was answered `ok`, the disk is the own one of the archive without the text,
+///   with no cache, and the root file has one new root and is otherwise as it was.
+/// * `crash`: since each act a crash leaves the archive that stood after it, or one that stood after a
+///   later act, or one in doubt there.
+/// * `reindex`: a command after a reindexing ends as it does on the archive before it.
+pub fn six_promises<D: Disk>(_disk: &D)
+    ensures lost { NothingIsLost D.Disk }
+    ensures replies { RepliesAreDefined }
+    ensures numbers { NumbersNameOne D.Disk }
+    ensures purge { PurgeLeavesNothing D.Disk }
+    ensures crash { CrashLeavesAnAct D.Disk }
+    ensures reindex { ReindexChangesNoReply }
+{
+    law_of_numbers();
 }

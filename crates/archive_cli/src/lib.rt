@@ -17,7 +17,8 @@ mod texts;
 mod words;
 
 pub use laws::{
-    plain_is_transcript, runs_are_those_of_their_job, runs_in_a_row, words_ask_for_one_job,
+    plain_is_transcript, runs_are_those_of_their_job, runs_in_a_row, six_promises,
+    words_ask_for_one_job,
 };
 pub use outcome::say_reply;
 pub use playing::{CountedKeep, play_script};

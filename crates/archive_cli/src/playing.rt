@@ -3,6 +3,7 @@
 ghost use Rattle.std.specs.Prelude.{◌≡◌, ◌≤◌, ◌++◌, ℕ, List, All, true, length, codes};
 ghost use Rattle.arch_base.specs.declared.config.Config.{Config};
 ghost use Rattle.arch_model.specs.Archives.{empty_archive};
+ghost use Rattle.arch_model.specs.Validity.{IsArchive};
 ghost use Rattle.answer_lines.specs.Lines.{whole_line};
 ghost use Rattle.edge_io.specs.Phrases.{SaysTo};
 ghost use Rattle.edge_io.specs.Scripts.{Arrival, IsArrival, IsScript};
@@ -48,8 +49,8 @@ impl CountedKeep for MemArchive {
 /// write.
 ///
 /// If an allocation fails, or a call of the keeper's disk, the events are played on, and a line after
-/// the first frames tells that memory ran out. Over a keeper of another archive nothing is promised of
-/// what is printed.
+/// the first frames tells that memory ran out. Over a keeper of another archive, or of one that isn't
+/// valid, nothing is promised of what is printed.
 pub fn play_script<K: CountedKeep + Drop, O: Sink>(
     alloc: Global,
     keep: K,
@@ -58,6 +59,7 @@ pub fn play_script<K: CountedKeep + Drop, O: Sink>(
 ) -> Status
     requires script { All IsArrival events }
     ensures printed { (config : Config) → K.holds keep (empty_archive config)
+        → IsArchive (empty_archive config)
         → (text : List ℕ) → IsScript events text → length text ≤ input_limit
         → PrintedTo O.Sink (IsReplayDue config text) result out.old out.new }
     ensures sink { O.alike out.old out.new }
@@ -85,6 +87,7 @@ fn play_over<K: CountedKeep + Drop>(alloc: Global, keep: K, host: ScriptHost) ->
     requires unfailed { K.faults keep ≡ 0 }
     ensures { (arrivals : List Arrival) → IsNewScriptHost arrivals host
         → (config : Config) → K.holds keep (empty_archive config)
+        → IsArchive (empty_archive config)
         → (text : List ℕ) → IsScript arrivals text → length text ≤ input_limit
         → IsPlayedAs config text arrivals result }
 {

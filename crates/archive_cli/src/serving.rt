@@ -18,7 +18,8 @@ use std::alloc::Global;
 /// Opens the archive on a disk and serves it, at most so many events. Hands the disk back.
 ///
 /// A fault of the disk ends nothing once the archive is open: the session that meets it says so, and
-/// the archive is reopened before the next piece.
+/// the archive is reopened before the next piece, or before updates of sessions that idle. A fault in the
+/// latter is said by nobody, and no update is given then.
 pub(crate) fn serve_disk<D: Disk, H: Host, O: Sink>(
     alloc: Global,
     turns: u64,

@@ -16,7 +16,7 @@ piv2: a mailing list archive, kept in the folder piv2-store of this folder
   serve [turns=N] [port=N]
              serve it on this machine until the input     piv2 serve port=7100
              ends, or for N events: commands at the port
-             (7100), pages at 7101, news 7102, mail 7104
+             (7100), HTTP 7101, news 7102, IMAP 7103, POP3 7104, LMTP 7105
   replay NAME [limit=N] [slice=N] [max=N]
              run a script over an archive in memory       piv2 replay a < script
   load COUNT SEED

@@ -3,7 +3,7 @@ use crate::absent::Absent;
 use crate::disk_tests::{ONE, Still, TAKEN, printing};
 use crate::run_tests::{Due, bytes, numbers};
 use arch_base::Numbers;
-use archive_cli::run;
+use archive_cli::{run, six_promises};
 use disk_model::MemDisk;
 use edge_io::{MemHost, MemSink, MemSource, script};
 use std::alloc::Global;
@@ -22,6 +22,13 @@ fn ran_alone(alloc: Global, words: &[&str], disk: MemDisk) -> Option<(u8, MemDis
         &mut sink,
         &mut clock,
     ))
+}
+
+/// The six laws hold of a disk in memory.
+#[test]
+fn the_six_promises_hold_of_a_disk_in_memory(rt: HostRuntime) {
+    let disk = MemDisk::new(rt.alloc(), Numbers::new(rt.alloc()));
+    six_promises(&disk);
 }
 
 /// Returns a disk with an archive without messages.

@@ -20,9 +20,9 @@ use std::time::SystemTime;
 /// connections take.
 ///
 /// It listens at the ports of the doors that the server has: control at its port, HTTP at the next,
-/// NNTP at the one after that, and POP3 at its port plus 4. It waits in the system until something
-/// happens, and gives `Quiet` if nothing did for about 100 ms. The end of a standard input that is a
-/// pipe gives `Stop`. Up to 512 clients are there at once, and others wait.
+/// NNTP at the one after that, POP3 at its port plus 4, and LMTP at its port plus 5. It waits in the
+/// system until something happens, and gives `Quiet` if nothing did for about 100 ms. The end of a
+/// standard input that is a pipe gives `Stop`. Up to 512 clients are there at once, and others wait.
 ///
 /// A client that doesn't take 65,536 bytes within 10 s makes its `send` fail. All others wait
 /// meanwhile.

@@ -1,7 +1,6 @@
 //! Sockets of clients on the loopback interface, and what happens at them.
 //! Calls the system.
-ghost use Rattle.std.specs.Prelude.{ℕ, List, IfOk, IfSome, IsTrue};
-ghost use Rattle.edge_io.specs.Events.{IsDoor};
+ghost use Rattle.std.specs.Prelude.{ℕ, List, IfOk, IfSome};
 ghost use Rattle.real_edges.specs.Sockets.{MayHappen};
 
 use crate::client::{Client, Heard};
@@ -15,14 +14,14 @@ use std::io::{self, ErrorKind};
 use std::net::{Ipv4Addr, SocketAddr};
 use std::time::{Clock, Duration};
 
-/// A door that the server has, and how far its port is from the base port.
+/// A door of the server, and how far its port is from the base port.
 #[derive(Clone, Copy)]
 struct Port {
     door: Door,
     offset: u16,
 }
 
-/// The doors that the server has.
+/// The doors of the server.
 const PORTS: [Port; LISTENERS] = [
     Port {
         door: Door::Control,
@@ -37,12 +36,20 @@ const PORTS: [Port; LISTENERS] = [
         offset: 2,
     },
     Port {
+        door: Door::Imap,
+        offset: 3,
+    },
+    Port {
         door: Door::Pop3,
         offset: 4,
     },
+    Port {
+        door: Door::Lmtp,
+        offset: 5,
+    },
 ];
 
-/// The ports of the doors that the server has, by the first, in the words in which it says where it
+/// The ports of the doors of the server, by the first, in the words in which it says where it
 /// listens.
 #[derive(Clone, Copy, Drop)]
 pub(crate) struct Ports(pub(crate) u16);
@@ -50,15 +57,16 @@ pub(crate) struct Ports(pub(crate) u16);
 impl Display for Ports {
     fn fmt<W: fmt::Write>(&self, f: &mut fmt::Formatter<W>) -> fmt::Result {
         let control = u32::from(self.0);
-        let (http, nntp, pop3) = (control + 1, control + 2, control + 4);
+        let (http, nntp, imap) = (control + 1, control + 2, control + 3);
+        let (pop3, lmtp) = (control + 4, control + 5);
         write!(
             f,
-            "listening at 127.0.0.1: port {control} for commands, {http} for pages (HTTP), {nntp} for news (NNTP), {pop3} for mail (POP3)"
+            "listening at 127.0.0.1: port {control} for commands, {http} for pages (HTTP), {nntp} for news (NNTP), {imap} for mailboxes (IMAP), {pop3} for mail (POP3), {lmtp} for deliveries (LMTP)"
         )
     }
 }
 
-/// The ports of the doors that the server has, by the first, in the words in which it says that it
+/// The ports of the doors of the server, by the first, in the words in which it says that it
 /// can't listen there.
 #[derive(Clone, Copy, Drop)]
 pub(crate) struct NotHeard(pub(crate) u16);
@@ -66,16 +74,16 @@ pub(crate) struct NotHeard(pub(crate) u16);
 impl Display for NotHeard {
     fn fmt<W: fmt::Write>(&self, f: &mut fmt::Formatter<W>) -> fmt::Result {
         let control = u32::from(self.0);
-        let (http, nntp, pop3) = (control + 1, control + 2, control + 4);
+        let last = control + 5;
         write!(
             f,
-            "can't listen at ports {control}, {http}, {nntp} and {pop3} of 127.0.0.1; port=N asks for others"
+            "can't listen at ports {control} to {last} of 127.0.0.1; port=N asks for others"
         )
     }
 }
 
 /// The number of listeners. Their places in a circle come first.
-const LISTENERS: usize = 4;
+const LISTENERS: usize = 6;
 
 /// The number of clients. Their places in a circle come after those of the listeners.
 const CLIENTS: usize = 512;
@@ -114,7 +122,7 @@ pub(crate) struct Sockets {
 }
 
 impl Sockets {
-    /// Listens at the ports of the doors that the server has.
+    /// Listens at the ports of the doors of the server.
     pub(crate) fn open(rt: &HostRuntime, alloc: Global, port: u16) -> io::Result<Sockets> {
         let waiting = Poll::new(rt)?;
         watch_input(&waiting);
@@ -266,7 +274,7 @@ impl Sockets {
     fn add(&mut self, place: usize, stream: TcpStream, door: Door) -> Option<What>
         ensures { (into : List ℕ) → IfSome result (λ what. MayHappen into what) }
     {
-        if place >= CLIENTS || !is_served(door) {
+        if place >= CLIENTS {
             return None;
         }
         let mut stream = stream;
@@ -329,23 +337,13 @@ fn quiet() -> Duration {
     Duration::from_millis(100)
 }
 
-/// Returns whether the server has a door.
-fn is_served(door: Door) -> bool
-    ensures { IsTrue result → IsDoor door }
-{
-    match door {
-        Door::Control | Door::Http | Door::Nntp | Door::Pop3 => true,
-        Door::Imap => false,
-    }
-}
-
 /// Has the end of the standard input reported. Only a pipe or a socket has one that can be.
 fn watch_input(waiting: &Poll) {
     let registry = waiting.registry();
     let _ = registry.register(&mut SourceFd(&INPUT), Token(PLACES), Interest::READABLE);
 }
 
-/// Listens at the ports of all doors that the server has.
+/// Listens at the ports of all doors of the server.
 fn listen_all(
     rt: &HostRuntime,
     alloc: Global,

@@ -31,7 +31,7 @@ returns-in-Ok-clause-serves g c =
         crash = opened.first;
         crash_between = opened.crash_between;
         first = first;
-        begins = record { unopened = c.new-node.ensures.none; count = c.new-node.ensures.count; out_is = out };
+        begins = record { unopened = c.new-node.ensures.none; count = c.new-node.ensures.count; noted = c.new-node.ensures.idling; out_is = out };
         first_disk = ap (λ (e : Owning g.row.D.Denot). e.disk) c.new-node.ensures.keep;
         first_ready = ap is_ready c.new-node.ensures.keep ∙ ap not c.in-Ok.ensures.ready;
         first_counts = refl;
@@ -46,7 +46,7 @@ returns-in-Ok-clause-serves g c =
         served = λ a cache reads.
             served-on g.D.Disk g.met.D.Disk.counts_now g.met.D.Disk.only_now g.met.D.Disk.reads_fit (λ e b may held has. store-left g.D.Disk g.met.D.Disk.counts_now g.met.D.Disk.only_now e b may (held.0, held.1) has) c.law_of_recovery.ensures.some_one c.law_of_recovery.ensures.caches c.law_of_numbers.ensures.itself c.law_of_commands.ensures.follows a cache
             c.args.disk c.in-Ok.engine c.new-node.result c.serve-end.new.node served.arrivals served.stages _ _ c.new-node.ensures.keep (opened.done a cache reads) (c.in-Ok.ensures.rows a cache reads) opened.settled opened.first opened.crash_between (opened-went c.in-Ok.engine.view (content c.args.disk) (content c.in-Ok.engine.disk) (g.met.D.Disk.reads_fit c.args.disk) opened.answer opened.kept opened.settled)
-            (λ t fits. served.runs t fits) reads;
+            c.new-node.ensures.none c.new-node.ensures.idling (λ t fits suits. served.runs t fits suits) reads;
       }),
       c.print_end.ensures.printed,
     )
