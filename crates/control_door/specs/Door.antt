@@ -10,7 +10,10 @@ use Rattle.arch_model.specs.Epochs.{epoch_bytes}
 use Rattle.arch_model.specs.Delivery.{Done, delivered, removed, purged, edited, answer_line}
 use Rattle.arch_model.specs.Standing.{LastKnown, standing, unsure}
 use Rattle.answer_lines.specs.Lines.{whole_line, memory_word, disk_word, unopened_words}
-use Rattle.keep_course.specs.Answering.{said_reopening}
+use Rattle.keep_course.specs.Answering.{KeeperAsked, AsksNoDisk, AsksReading, AsksReopening, AsksReindexing, AsksCommand, AsksDelivery, AsksRemoval, AsksPurge, AsksEdit, said_reopening}
+use Rattle.keep_course.specs.Courses.{KeeperDoor}
+use Rattle.keep_course.specs.declared.refusal.Refusal.{Refusal}
+use Rattle.keep_course.specs.declared.refusal.Refusal.TheVariants as refused
 use Rattle.shelf_trees.specs.Twigs.{thread_twigs}
 use Rattle.thread_tree.specs.Laid.{tree_lines}
 use Rattle.control_door.specs.Threads.{tree_words}
@@ -20,9 +23,11 @@ use Rattle.control_door.specs.Requests.{Request, Delivers, Shows, Removes, Purge
 abbrev pub bad_word : List ℕ
 bad_word = whole_line (codes "13 bad line")
 
--- The word for a server that is full.
-abbrev pub busy_word : List ℕ
-busy_word = whole_line (codes "14 busy")
+-- Why a connection is refused.
+abbrev pub refusal_words : Refusal → List ℕ
+refusal_words refused.Busy = whole_line (codes "14 busy")
+refusal_words refused.NoMemory = memory_word
+refusal_words (refused.Unopened why) = unopened_words why
 
 -- A line with the length of the text, and then the text; or a line that the number is not live.
 abbrev pub shown : ℕ → Option (List ℕ) → List ℕ
@@ -167,9 +172,40 @@ said moment s w way = said_at moment s w (ahead w.bytes) way
 abbrev pub has_request : Waiting → Bool
 has_request w = is_request w.bytes
 
--- The archive is reopened before the request at the front.
-abbrev pub reopens : Waiting → Bool
-reopens w = if w.opened then false else has_request w
+-- What `show` asks of the keeper: to read, if the number has a text.
+abbrev pub asked_to_show : Option (List ℕ) → KeeperAsked
+asked_to_show None = AsksNoDisk
+asked_to_show (Some text) = AsksReading
+
+-- What a request asks of the keeper of an archive.
+abbrev pub keeper_asked : LastKnown → Request → KeeperAsked
+keeper_asked s (Delivers message) = AsksCommand (AsksDelivery message)
+keeper_asked s (Shows number) = asked_to_show (text_of (live s.archive.entries) number)
+keeper_asked s (Removes number) = AsksCommand (AsksRemoval number)
+keeper_asked s (Purges number) = AsksCommand (AsksPurge number)
+keeper_asked s (Edits number message) = AsksCommand (AsksEdit number message)
+keeper_asked s Lists = AsksReading
+keeper_asked s Reindexes = AsksReindexing
+keeper_asked s other = AsksNoDisk
+
+-- What is asked of it at what is at the front of a session: before each request it is reopened.
+abbrev pub keeper_asked_at : Bool → LastKnown → Ahead → KeeperAsked
+keeper_asked_at true s (Asked request rest) = keeper_asked s request
+keeper_asked_at false s (Asked request rest) = AsksReopening
+keeper_asked_at opened s Unfinished = AsksNoDisk
+
+-- What an act of a session asks of the keeper.
+abbrev pub asks : LastKnown → Waiting → KeeperAsked
+asks s w = keeper_asked_at w.opened s (ahead w.bytes)
+
+-- The door at a moment.
+abbrev pub control_at : ℕ → KeeperDoor Waiting
+control_at moment = record {
+  said = said moment;
+  is_request = has_request;
+  asks = asks;
+  moment = moment;
+}
 
 -- The session with a piece after its bytes.
 abbrev pub with_piece : List ℕ → Waiting → Waiting

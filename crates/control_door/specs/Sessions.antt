@@ -1,7 +1,7 @@
 -- What a session holds between pieces, the front of its bytes, and its acts.
 use Rattle.std.specs.Prelude.{◌≡◌, ◌+◌, ◌<◌, ◌≤◌, ℕ, Bool, true, false, List, ◌++◌, length, drop, Option, Some, None}
 use Rattle.line_door.specs.Lines as line
-use Rattle.line_door.specs.Acts.{ConnectionState, Departure, Plain, Acts, held_if}
+use Rattle.line_door.specs.Acts.{ConnectionState, Departure, Acts, held_if}
 use Rattle.line_door.specs.Course.{talk}
 use Rattle.keep_course.specs.Answering as answering
 use Rattle.keep_course.specs.Courses.{SessionRunLeft}
@@ -12,7 +12,7 @@ use Rattle.arch_model.specs.declared.command.Command.{Command}
 use Rattle.arch_model.specs.declared.command.Command.TheVariants.{Deliver, Remove, Purge, Edit}
 use Rattle.control_door.specs.Orders.{order_of}
 use Rattle.control_door.specs.Requests.{Request, Delivers, Shows, Removes, Purges, Edits, Threads, Lists, Reindexes, Quits, Mistakes, Exceeds, Asked, ahead, line_limit, is_request}
-use Rattle.control_door.specs.Door.{Waiting, waiting, said, said_to, said_opening, has_request, reopens}
+use Rattle.control_door.specs.Door.{Waiting, waiting, said, said_to, said_opening, keeper_asked, asks, control_at}
 use Rattle.control_door.specs.declared.order.Order.{Order}
 use Rattle.control_door.specs.declared.order.Order.TheVariants as order
 use Rattle.control_door.specs.declared.front.Aim.{Aim}
@@ -124,11 +124,12 @@ TakesRequest opened piece Closed = Unit {0}
 
 module _ {K : Type 0} (g : Keeper K) where
   -- Whichever archive is held, a request to it is answered, and the keeper matches the archive after
-  -- it.
+  -- it, and did what the request asks.
   abbrev pub AnswersRequest : ℕ → Request → K → ConnectionState → Bool → K → ConnectionState → Type 0
   AnswersRequest moment request old i goes_on new j = answering.ActsOnArchive g
       (λ (a : Archive) (rest : List ℕ) (way : Departure). said_to moment (standing a None) request rest way)
-      (λ (rest : List ℕ). waiting rest false) old i goes_on new j
+      (λ (rest : List ℕ). waiting rest false) moment
+      (λ (a : Archive). keeper_asked (standing a None) request) old i goes_on new j
 
   -- Whatever the keeper matches, it is reopened, or reopening is refused.
   abbrev pub ReopensForCommand : K → ConnectionState → Bool → K → ConnectionState → Type 0
@@ -136,17 +137,17 @@ module _ {K : Type 0} (g : Keeper K) where
       (λ (s : LastKnown) (bytes : List ℕ) (way : Departure). said_opening s bytes way)
       (λ (bytes : List ℕ). waiting bytes true) old i opened new j
 
-  -- Whatever the keeper matches, one act is done, and the keeper matches what the act leaves. Where
-  -- it is a reopening, it changes nothing of a ready keeper.
+  -- Whatever the keeper matches, one act is done, and the keeper matches what the act leaves, and did
+  -- what the act asks.
   abbrev pub ControlActs : ℕ → Bool → List ℕ → List ℕ → K → ConnectionState → Act → List ℕ → K
       → ConnectionState → Type 0
   ControlActs moment opened held piece old i turn left new j =
       (s : LastKnown) → MatchesKnown g old s → (t : LastKnown)
       × KeeperMoves g old s new t
       × IsControlAct moment opened s held piece i turn t left j
-      × (reopens (waiting (held ++ piece) opened) ≡ true
-      → answering.ReopenedAs g (said moment s (waiting (held ++ piece) opened) Plain) old i
-      (left_by_act opened piece turn left) new t j)
+      × answering.DoesAsked g moment (asks s (waiting (held ++ piece) opened))
+      (said moment s (waiting (held ++ piece) opened)) old s i
+      (left_by_act opened piece turn left) new t j
 
   -- Whatever the keeper matches, these bytes of a session are answered by a course, and the keeper matches
   -- what that leaves. A crash since the start leaves an archive of one of its talks, or one in doubt
@@ -155,6 +156,6 @@ module _ {K : Type 0} (g : Keeper K) where
   AnswersCommands moment bytes old i goes_on left new j =
       (s : LastKnown) → MatchesKnown g old s → (t : LastKnown) × (opened : Bool)
       × MatchesKnown g new t
-      × SessionRunLeft g (said moment) has_request reopens old new
+      × SessionRunLeft g (control_at moment) old new
       (talk (Some (waiting bytes true)) s i)
       (talk (held_if goes_on (waiting left opened)) t j)

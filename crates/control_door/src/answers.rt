@@ -1,9 +1,9 @@
 //! Answers the requests of a control connection from a keeper.
 //! Writes the disk; syncs.
-ghost use Rattle.std.specs.Prelude.{◌≡◌, ◌≤◌, ◌++◌, ℕ, List, length, drop, true, false, is_ok};
+ghost use Rattle.std.specs.Prelude.{◌≡◌, ◌≤◌, ◌++◌, ℕ, List, length, drop, None, true, false, is_ok};
 ghost use Rattle.line_door.specs.Acts.{Acts, held_if, at_sink};
 ghost use Rattle.arch_model.specs.OverShelf.{ShelfKept};
-ghost use Rattle.arch_model.specs.Archives.{Archive};
+ghost use Rattle.arch_model.specs.Archives.{Archive, live, text_of};
 ghost use Rattle.arch_base.specs.Moments.{last_moment};
 ghost use Rattle.arch_model.specs.Next.{continues};
 ghost use Rattle.arch_model.specs.Shelves.{ReadsOnce, ReadsUpTo};
@@ -176,6 +176,8 @@ fn say_message<S: Shelf, O: Sink>(
         (at_sink O.Sink out.old (S.faults shelf.old))
         (held_if (is_ok result) (waiting rest false)) (standing a None)
         (at_sink O.Sink out.new (S.faults shelf.new)) }
+    ensures unused { (a : Archive) → S.holds shelf.old a → text_of (live a.entries) number ≡ None
+        → S.faults shelf.new ≡ S.faults shelf.old }
     ensures shelf { ShelfKept S.Shelf shelf.old shelf.new }
     ensures reads { ReadsOnce (S.reads shelf.old) (S.reads shelf.new) }
     ensures sink { O.alike out.old out.new }

@@ -15,5 +15,5 @@ mod thread;
 
 pub use laws::cut_laws;
 pub use order::{Order, read_order};
-pub use replies::say_busy;
+pub use replies::say_refusal;
 pub use session::Session;

@@ -2,10 +2,11 @@
 //! Pure.
 ghost use Rattle.std.specs.Prelude.{Some, None};
 ghost use Rattle.edge_io.specs.Phrases.{SaysTo};
-ghost use Rattle.control_door.specs.Door.{bad_word, busy_word, shown, reindexed_words};
+ghost use Rattle.control_door.specs.Door.{bad_word, refusal_words, shown, reindexed_words};
 
-use answer_lines::say_number;
+use answer_lines::{say_memory, say_number, say_unopened};
 use edge_io::{Sink, SinkFault, say, say_line};
+use keep_course::Refusal;
 
 /// Writes that a line is not an order.
 pub(crate) fn say_bad<O: Sink>(out: &mut O) -> Result<(), SinkFault>
@@ -15,12 +16,18 @@ pub(crate) fn say_bad<O: Sink>(out: &mut O) -> Result<(), SinkFault>
     say_line(b"13 bad line", out)
 }
 
-/// Writes that as many sessions are open as there may be. The connection has none.
-pub fn say_busy<O: Sink>(out: &mut O) -> Result<(), SinkFault>
-    ensures said { SaysTo O.Sink busy_word out.old out.new result }
+/// Writes why a connection is refused.
+///
+/// `SinkFault` if a write failed. A prefix of the line was taken, and the sink's count of faults rose.
+pub fn say_refusal<O: Sink>(refusal: Refusal, out: &mut O) -> Result<(), SinkFault>
+    ensures said { SaysTo O.Sink (refusal_words refusal) out.old out.new result }
     ensures sink { O.alike out.old out.new }
 {
-    say_line(b"14 busy", out)
+    match refusal {
+        Refusal::Busy => say_line(b"14 busy", out),
+        Refusal::NoMemory => say_memory(out),
+        Refusal::Unopened(why) => say_unopened(why, out),
+    }
 }
 
 /// Writes that a number has no text.

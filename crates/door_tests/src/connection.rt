@@ -1,10 +1,10 @@
 //! A control connection to an archive in memory.
-ghost use Rattle.arch_base.specs.Configs.{IsConfig};
-
-use arch_base::{Config, Name, Numbers};
+use arch_base::Numbers;
 use arch_model::Next;
+use archive_fixtures::in_memory;
 use control_door::Session;
 use edge_io::MemSink;
+use fixtures::{LIMIT, MAX};
 use mem_archive::MemArchive;
 use std::alloc::Global;
 
@@ -63,20 +63,6 @@ impl Connection {
     }
 }
 
-/// Returns the settings of an archive of this name, which is a mirror or not.
-fn config(name: Name, mirror: bool) -> Config
-    ensures { IsConfig result }
-{
-    Config {
-        name,
-        limit: 1_073_741_824,
-        slice: 50_000,
-        max: 2_147_483_647,
-        mirror,
-        born: 1,
-    }
-}
-
 /// Creates an archive without messages of the name `list`.
 pub fn archive(alloc: Global) -> Option<MemArchive> {
     archive_of(alloc, false)
@@ -84,6 +70,5 @@ pub fn archive(alloc: Global) -> Option<MemArchive> {
 
 /// Creates an archive without messages of the name `list`, which is a mirror or not.
 fn archive_of(alloc: Global, mirror: bool) -> Option<MemArchive> {
-    let name = Name::read(b"list")?;
-    Some(MemArchive::new(alloc, config(name, mirror)))
+    in_memory(alloc, LIMIT, MAX, mirror)
 }

@@ -3,9 +3,9 @@
 use crate::connection::archive;
 use arch_base::Numbers;
 use arch_model::Next;
+use archive_fixtures::{Failing, FailingKeep, Unread};
 use control_door::Session;
 use edge_io::MemSink;
-use failing_archive::{Failing, FailingKeep, Unread};
 use std::alloc::Global;
 
 /// A stream that comes in one piece, and what it gets from a keeper that fails.

@@ -7,7 +7,7 @@ ghost use Rattle.door_tests.specs.Chains.{Chain};
 
 use crate::connection::archive;
 use arch_model::{Answer, Command, Keep, OpenRefusal};
-use failing_archive::{Failing, FailingKeep};
+use archive_fixtures::{Failing, FailingKeep};
 use std::alloc::Global;
 
 /// Delivers three messages at a moment, and returns the answers.

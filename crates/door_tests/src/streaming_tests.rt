@@ -3,8 +3,8 @@ use crate::connection::archive;
 use crate::say_texts;
 use arch_base::Numbers;
 use arch_model::{Command, Keep};
+use archive_fixtures::{Failing, FailingKeep, Unread};
 use edge_io::MemSink;
-use failing_archive::{Failing, FailingKeep, Unread};
 use mem_archive::MemArchive;
 use std::alloc::Global;
 

@@ -4,8 +4,8 @@ use crate::mails::{
 };
 use arch_base::Numbers;
 use arch_model::{Command, Keep, Next};
+use archive_fixtures::{Failing, FailingKeep, Unread};
 use edge_io::MemSink;
-use failing_archive::{Failing, FailingKeep, Unread};
 use http_front::HttpSession;
 use mem_archive::MemArchive;
 use std::alloc::Global;

@@ -1,17 +1,16 @@
 //! Mails for the tests, and what the door of pages shows of them. The bodies were worked out by hand
 //! from the formats.
-ghost use Rattle.arch_base.specs.Configs.{IsConfig};
-
-use arch_base::{Config, Name, Numbers};
+use arch_base::Numbers;
 use arch_model::{Command, Keep, Next};
+use archive_fixtures::in_memory;
 use edge_io::MemSink;
+use fixtures::{FIRST, LIMIT, MAX};
 use http_front::HttpSession;
 use mem_archive::MemArchive;
 use std::alloc::Global;
 
 /// A mail with a name, a date and a subject. It arrives at 2024-02-01 10:01:40.
-pub(crate) const A: &[u8] =
-    b"From: Ann <ann@example.org>\nDate: Thu, 1 Feb 2024 10:00:00 +0000\nSubject: first\nMessage-ID: <a@x>\n\none\n";
+pub(crate) const A: &[u8] = FIRST;
 
 /// An answer to it and to a mail that the archive doesn't have. It arrives an hour later.
 pub(crate) const B: &[u8] =
@@ -149,20 +148,5 @@ pub(crate) fn archive_of_three(alloc: Global) -> Option<MemArchive> {
 
 /// Creates an archive without mails of the name `list`.
 pub(crate) fn empty_archive(alloc: Global) -> Option<MemArchive> {
-    let name = Name::read(b"list")?;
-    Some(MemArchive::new(alloc, config(name)))
-}
-
-/// Returns the settings of an archive of this name.
-fn config(name: Name) -> Config
-    ensures { IsConfig result }
-{
-    Config {
-        name,
-        limit: 1_073_741_824,
-        slice: 50_000,
-        max: 2_147_483_647,
-        mirror: false,
-        born: 1,
-    }
+    in_memory(alloc, LIMIT, MAX, false)
 }

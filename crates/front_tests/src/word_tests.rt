@@ -4,7 +4,8 @@ use arch_base::Numbers;
 use arch_model::{Next, OpenRefusal};
 use disk_model::{FileKind, FileName};
 use edge_io::MemSink;
-use http_front::{say_busy, say_no_memory, say_unopened};
+use http_front::say_refusal;
+use keep_course::Refusal;
 use std::alloc::Global;
 
 /// Requests after the removal of the first mail, and their replies.
@@ -53,22 +54,15 @@ fn a_removed_mail_is_not_shown(rt: HostRuntime) {
 /// The moment of the words, 2024-02-01 10:03:20.
 const MOMENT: u64 = 1_706_781_800;
 
-/// Returns whether the reply to one connection too many is this.
-fn busy_is(alloc: Global, reply: &[u8]) -> bool {
-    let mut out = MemSink::new(alloc, Numbers::new(alloc));
-    say_busy(MOMENT, &mut out).is_ok() && out.taken() == reply
-}
-
-/// Returns whether the reply for want of memory is this.
-fn no_memory_is(alloc: Global, reply: &[u8]) -> bool {
-    let mut out = MemSink::new(alloc, Numbers::new(alloc));
-    say_no_memory(MOMENT, &mut out).is_ok() && out.taken() == reply
-}
-
 /// Returns whether the reply to a refusal is this.
-fn unopened_is(alloc: Global, refusal: OpenRefusal, reply: &[u8]) -> bool {
+fn refusal_is(alloc: Global, refusal: Refusal, reply: &[u8]) -> bool {
     let mut out = MemSink::new(alloc, Numbers::new(alloc));
-    say_unopened(refusal, MOMENT, &mut out).is_ok() && out.taken() == reply
+    say_refusal(refusal, MOMENT, &mut out).is_ok() && out.taken() == reply
+}
+
+/// Returns whether the reply for an archive that is not opened is this.
+fn unopened_is(alloc: Global, refusal: OpenRefusal, reply: &[u8]) -> bool {
+    refusal_is(alloc, Refusal::Unopened(refusal), reply)
 }
 
 /// Returns the refusal of an archive with a damaged file of a kind.
@@ -86,14 +80,16 @@ fn damage(kind: FileKind, number: u32, at: u64) -> OpenRefusal {
 #[test]
 fn the_node_has_words_of_the_door(rt: HostRuntime) {
     assert!(rt;
-        busy_is(
+        refusal_is(
             rt.alloc(),
+            Refusal::Busy,
             b"HTTP/1.1 429 Too Many Requests\r\nDate: Thu, 01 Feb 2024 10:03:20 GMT\r\nContent-Type: text/plain; charset=utf-8\r\nContent-Length: 5\r\nConnection: close\r\n\r\nbusy\n"
         )
     );
     assert!(rt;
-        no_memory_is(
+        refusal_is(
             rt.alloc(),
+            Refusal::NoMemory,
             b"HTTP/1.1 503 Service Unavailable\r\nDate: Thu, 01 Feb 2024 10:03:20 GMT\r\nContent-Type: text/plain; charset=utf-8\r\nContent-Length: 14\r\nConnection: close\r\n\r\nout of memory\n"
         )
     );

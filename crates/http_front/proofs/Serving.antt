@@ -1,5 +1,6 @@
 -- What is found and said makes an act.
 use Rattle.std.proofs.Common.{◌≡◌, ◌≤◌, inl, inr, ℕ, Bool, true, false, not, ◌&&◌, List, Option, Some, None, Result, Err, is_ok, refl, sym, ap, subst, ◌∙◌, arith}
+use Rattle.std.proofs.lemmas.Bool.{false≢true}
 use Rattle.edge_io.specs.Phrases.{Says}
 use Rattle.edge_io.specs.declared.sink.SinkFault.{SinkFault}
 use Rattle.httparse.specs.Grammar.{RequestHead}
@@ -18,9 +19,9 @@ use Rattle.http_heads.specs.declared.reply.Status.{Status}
 use Rattle.http_heads.specs.declared.reply.Status.TheVariants.{Done, BadRequest, NotFound, ServerError, Unavailable}
 use Rattle.http_heads.specs.declared.reply.Verdict.{Verdict}
 use Rattle.http_heads.specs.declared.reply.Verdict.TheVariants.{Serve, Refuse}
-use Rattle.http_front.specs.Asking.{Found, Gives, Streams, Missing, BadRange}
+use Rattle.http_front.specs.Asking.{Found, Gives, Streams, Missing, BadRange, target_reads}
 use Rattle.http_front.specs.Replies.{reply, word, word_of, bad_range}
-use Rattle.http_front.specs.Door.{served, said_found, said_asked, said_verdict, said_head}
+use Rattle.http_front.specs.Door.{served, said_found, said_asked, said_verdict, said_head, verdict_uses, head_uses}
 use Rattle.http_front.specs.Sessions.{SaysThen, SaysWhole, PageSaysUnread, FindsTarget, said_mailbox}
 use Rattle.http_front.proofs.Acting.{acts-replied}
 use Rattle.http_front.proofs.HeadReading.{reads-heads}
@@ -55,6 +56,16 @@ module _ (moment : ℕ) (a : Archive) (rest : List ℕ) where
   acts-served found asked sends i held j is verdict acts =
       acts-words (said_head moment a found rest) (said_asked moment a asked sends rest) i held a j
       (λ way. ap (λ (o : Option Asked). said_head moment a o rest way) is ∙ ap (λ (v : Verdict). said_verdict moment a asked rest v way) verdict) acts
+
+-- A head that is served uses the disk if its target does.
+pub serve-spares : (a : Archive) (found : Option Asked) (asked : Asked) (sends : Bool) → found ≡ Some asked → verdict_of (Some asked) ≡ Serve sends → head_uses a found ≡ false → target_reads a asked.target ≡ false
+serve-spares a found asked sends is verdict spares = sym (ap (head_uses a) is ∙ ap (verdict_uses a asked) verdict) ∙ spares
+
+-- Where no text is read, a refusal to read comes without a fault.
+pub refused-spares : (a : Archive) (found : Found) (reads : Bool) (why : TextRefusal) (before now : ℕ) → FindsTarget a found reads (Err why) → ReadingWhy before now why → reads ≡ false → now ≡ before
+refused-spares a found reads refusal.DiskFault before now finds cause spares = absurd (false≢true (sym spares ∙ finds))
+refused-spares a found reads (refusal.Damaged named at) before now finds cause spares = absurd finds
+refused-spares a found reads refusal.NoMemory before now finds cause spares = cause
 
 module _ (moment : ℕ) (a : Archive) (sends ends : Bool) (rest : List ℕ) (found : Found) (reads : Bool) where
   -- What was found is said whole, or memory ran out.

@@ -5,6 +5,7 @@ use Rattle.line_door.specs.Acts.{Said, Departure}
 use Rattle.line_door.specs.Making.{closes, in_ways}
 use Rattle.line_door.specs.Plain.{silent}
 use Rattle.arch_model.specs.Archives.{Archive}
+use Rattle.keep_course.specs.Courses.{ShelfDoor}
 use Rattle.http_heads.specs.Heads.{Asked}
 use Rattle.http_heads.specs.Replies.{verdict_of}
 use Rattle.http_heads.specs.declared.reply.Status.TheVariants.{Done, BadRequest, NotFound, HeadTooLarge, ServerError, Unavailable}
@@ -85,6 +86,30 @@ said moment a bytes way = said_at moment a bytes (front head_limit bytes) way
 -- The session starts with a whole head, or with one that is too long.
 abbrev pub has_request : List ℕ → Bool
 has_request bytes = is_whole (front head_limit bytes)
+
+-- A head of which this becomes may use the disk: it is served, and texts are read for its target.
+abbrev pub verdict_uses : Archive → Asked → Verdict → Bool
+verdict_uses a asked (Serve sends) = target_reads a asked.target
+verdict_uses a asked (Refuse status sends) = false
+
+-- A head may, by what it asks.
+abbrev pub head_uses : Archive → Option Asked → Bool
+head_uses a None = false
+head_uses a (Some asked) = verdict_uses a asked (verdict_of (Some asked))
+
+-- What is at the front may.
+abbrev pub page_front_uses : Archive → HeadFront → Bool
+page_front_uses a (Whole head rest) = head_uses a (asked_in head)
+page_front_uses a Long = false
+page_front_uses a Partial = false
+
+-- An act of a session may.
+abbrev pub uses_disk : Archive → List ℕ → Bool
+uses_disk a bytes = page_front_uses a (front head_limit bytes)
+
+-- The door at a moment.
+abbrev pub pages_at : ℕ → ShelfDoor (List ℕ)
+pages_at moment = record { said = said moment; is_request = has_request; uses_disk = uses_disk }
 
 -- The session with a piece after its bytes.
 abbrev pub with_piece : List ℕ → List ℕ → List ℕ

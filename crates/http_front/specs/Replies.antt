@@ -5,6 +5,8 @@ use Rattle.std.specs.Fmt.{decimal}
 use Rattle.arch_model.specs.Delivery.{file_words}
 use Rattle.arch_model.specs.declared.opening.OpenRefusal.{OpenRefusal}
 use Rattle.arch_model.specs.declared.opening.OpenRefusal.TheVariants as opening
+use Rattle.keep_course.specs.declared.refusal.Refusal.{Refusal}
+use Rattle.keep_course.specs.declared.refusal.Refusal.TheVariants as refused
 use Rattle.http_heads.specs.Replies.{reply_head}
 use Rattle.http_heads.specs.declared.reply.Body.{Body}
 use Rattle.http_heads.specs.declared.reply.Body.TheVariants.{Words}
@@ -63,3 +65,9 @@ unopened_word (opening.Damaged file at) moment =
     word_of ServerError (file_line (file_words file) at) moment true true
 unopened_word opening.DiskFault moment = word ServerError moment true true
 unopened_word opening.NoMemory moment = word Unavailable moment true true
+
+-- Why a connection is refused at a moment. The connection is closed.
+abbrev pub refusal_words : ℕ → Refusal → List ℕ
+refusal_words moment refused.Busy = word TooManyRequests moment true true
+refusal_words moment refused.NoMemory = word Unavailable moment true true
+refusal_words moment (refused.Unopened why) = unopened_word why moment

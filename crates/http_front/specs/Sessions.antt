@@ -21,7 +21,7 @@ use Rattle.http_front.specs.Views.{shown_row, shown_text}
 use Rattle.http_front.specs.Threads.{thread_rows, oldest_first}
 use Rattle.http_front.specs.Asking.{Found, Gives, Streams, Missing, BadRange, message_found, text_found, thread_found, feed_found, feed_len}
 use Rattle.http_front.specs.Counting.{thread_len, head_texts, texts_for_bytes, bytes_read_nothing}
-use Rattle.http_front.specs.Door.{PageSays as SaysAct, replies, said_found, said, said_head, said_asked, has_request}
+use Rattle.http_front.specs.Door.{PageSays as SaysAct, replies, said_found, said, said_head, said_asked, has_request, pages_at}
 use Rattle.http_front.specs.Mailboxes.{mailbox_at, whole_mailbox}
 use Rattle.http_front.specs.Replies.{reply, word, word_of, damaged_line}
 use Rattle.http_front.specs.declared.session.Act.{Act}
@@ -164,6 +164,10 @@ module _ {S : Type 0} (holds : S → Archive → Type 0) where
   ReadsNothing bytes shelf before now = (a : Archive) → holds shelf a
       → bytes_read_nothing a bytes ≡ true → now ≡ before
 
+  -- Whichever archive is held, the count of faults stays if this doesn't use the disk.
+  abbrev pub SparesIn : (Archive → Bool) → S → ℕ → ℕ → Type 0
+  SparesIn uses shelf before now = (a : Archive) → holds shelf a → uses a ≡ false → now ≡ before
+
   -- Whichever archive is held and whatever follows, a head is answered.
   abbrev pub AnswersHead : ℕ → List ℕ → S → ConnectionState → Bool → ConnectionState → Type 0
   AnswersHead moment head shelf i goes_on j = (a : Archive) (rest : List ℕ) → holds shelf a
@@ -196,7 +200,7 @@ module _ {S : Type 0} (holds : S → Archive → Type 0) where
 abbrev pub AnswersPages : {S : Type 0} → Shelf S → ℕ → List ℕ → S → ConnectionState → Bool → List ℕ → S
     → ConnectionState → Type 0
 AnswersPages g moment bytes old i goes_on left new j = (a : Archive) → g.holds old a
-    → ShelfRun g (said moment) has_request old new (talk (Some bytes) a i)
+    → ShelfRun g (pages_at moment) old new (talk (Some bytes) a i)
     (talk (held_if goes_on left) a j)
 
 -- The words were taken, and the session continues unless the reply closes it; or they were lost, and

@@ -7,8 +7,11 @@ ghost use Rattle.arch_model.specs.OverShelf.{ShelfKept};
 ghost use Rattle.arch_model.specs.Next.{continues};
 ghost use Rattle.arch_model.specs.Shelves.{ReadsIn};
 ghost use Rattle.http_heads.specs.Heads.{shown};
+ghost use Rattle.http_front.specs.Asking.{target_reads};
 ghost use Rattle.http_front.specs.Counting.{served_texts};
-ghost use Rattle.http_front.specs.Sessions.{AnswersHead, ReadsHead, Serves, SaysWhole};
+ghost use Rattle.http_front.specs.Door.{head_uses};
+ghost use Rattle.http_front.specs.Reading.{asked_in};
+ghost use Rattle.http_front.specs.Sessions.{AnswersHead, ReadsHead, Serves, SparesIn, SaysWhole};
 
 use crate::found::{FoundBody, find_target};
 use crate::mailbox::{say_every_mail, say_mails};
@@ -36,6 +39,8 @@ pub(crate) fn answer_head<S: Shelf, O: Sink>(
         (at_sink O.Sink out.old (S.faults shelf.old)) (continues result)
         (at_sink O.Sink out.new (S.faults shelf.new)) }
     ensures reads { ReadsHead S.holds head.now shelf.old (S.reads shelf.old) (S.reads shelf.new) }
+    ensures unused { SparesIn S.holds (λ a. head_uses a (asked_in head.now)) shelf.old
+        (S.faults shelf.old) (S.faults shelf.new) }
     ensures shelf { ShelfKept S.Shelf shelf.old shelf.new }
     ensures sink { O.alike out.old out.new }
 {
@@ -70,6 +75,8 @@ fn serve<S: Shelf, O: Sink>(
         (at_sink O.Sink out.new (S.faults shelf.new)) }
     ensures reads { ReadsIn S.holds (λ a. served_texts a request.now.target.now sends) shelf.old
         (S.reads shelf.old) (S.reads shelf.new) }
+    ensures unused { SparesIn S.holds (λ a. target_reads a request.now.target.now) shelf.old
+        (S.faults shelf.old) (S.faults shelf.new) }
     ensures shelf { ShelfKept S.Shelf shelf.old shelf.new }
     ensures sink { O.alike out.old out.new }
 {

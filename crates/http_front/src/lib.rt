@@ -20,4 +20,4 @@ mod words;
 
 pub use laws::{heads_are_read, http_laws, listing_is_whole};
 pub use session::HttpSession;
-pub use words::{say_busy, say_no_memory, say_unopened};
+pub use words::say_refusal;

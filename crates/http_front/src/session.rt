@@ -6,7 +6,9 @@ ghost use Rattle.arch_base.specs.Moments.{IsMoment};
 ghost use Rattle.arch_model.specs.OverShelf.{ShelfKept};
 ghost use Rattle.arch_model.specs.Archives.{Archive};
 ghost use Rattle.arch_model.specs.Next.{continues};
+ghost use Rattle.http_front.specs.Door.{uses_disk, head_uses};
 ghost use Rattle.http_front.specs.Fronts.{head_limit};
+ghost use Rattle.http_front.specs.Reading.{asked_in};
 
 use crate::answer::answer_head;
 use crate::held::HeldHead;
@@ -42,7 +44,9 @@ pub struct HttpSession {
 
 impl Model for HttpSession {
     ghost use Rattle.std.specs.Prelude.{List, ℕ};
+    ghost use Rattle.http_front.specs.Door.{uses_disk, head_uses};
     ghost use Rattle.http_front.specs.Fronts.{head_limit};
+    ghost use Rattle.http_front.specs.Reading.{asked_in};
     ghost use Rattle.http_front.specs.Scans.{IsHeldHead};
 
     ghost Value = { List ℕ };
@@ -54,7 +58,7 @@ impl Model for HttpSession {
 
 impl HttpSession {
     ghost use Rattle.http_front.specs.Scans.{IsHeldHead};
-    ghost use Rattle.http_front.specs.Sessions.{IsPageAct, TakesHead, AnswersHead, PageActs, AnswersPages, ReadsHead, ReadsTurn, ReadsBytes, ReadsNothing};
+    ghost use Rattle.http_front.specs.Sessions.{IsPageAct, TakesHead, AnswersHead, PageActs, AnswersPages, ReadsHead, ReadsTurn, ReadsBytes, ReadsNothing, SparesIn};
 
     /// Returns a session without bytes. Nothing is said before the first request. Allocates nothing.
     pub fn open(alloc: Global) -> HttpSession
@@ -136,6 +140,8 @@ impl HttpSession {
         ensures takes { TakesHead piece.now result }
         ensures reads { ReadsTurn S.holds self.old piece.now shelf.old result self.new
             (S.reads shelf.old) (S.reads shelf.new) }
+        ensures unused { SparesIn S.holds (λ a. uses_disk a (self.old ++ piece.now)) shelf.old
+            (S.faults shelf.old) (S.faults shelf.new) }
         ensures shelf { ShelfKept S.Shelf shelf.old shelf.new }
         ensures sink { O.alike out.old out.new }
     {
@@ -170,6 +176,8 @@ impl HttpSession {
         ensures empty { self.new ≡ [] }
         ensures reads { ReadsHead S.holds (self.old ++ last.now) shelf.old (S.reads shelf.old)
             (S.reads shelf.new) }
+        ensures unused { SparesIn S.holds (λ a. head_uses a (asked_in (self.old ++ last.now))) shelf.old
+            (S.faults shelf.old) (S.faults shelf.new) }
         ensures shelf { ShelfKept S.Shelf shelf.old shelf.new }
         ensures sink { O.alike out.old out.new }
     {

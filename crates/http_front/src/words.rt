@@ -6,7 +6,7 @@ ghost use Rattle.std.specs.Prelude.{◌++◌, true, codes, decimal};
 ghost use Rattle.arch_base.specs.Moments.{IsMoment};
 ghost use Rattle.arch_model.specs.Delivery.{file_words};
 ghost use Rattle.edge_io.specs.Phrases.{SaysTo};
-ghost use Rattle.http_front.specs.Replies.{word, word_of, file_line, unopened_word};
+ghost use Rattle.http_front.specs.Replies.{word_of, file_line, unopened_word, refusal_words};
 
 use crate::replies::{say_damaged_file, say_status};
 use arch_model::OpenRefusal;
@@ -14,35 +14,26 @@ use disk_model::{FileKind, FileName};
 use edge_io::{Sink, SinkFault};
 use http_heads::Status;
 use itoa::Buffer;
+use keep_course::Refusal;
 
-/// Writes that too many connections are open, in a reply that closes this one. `moment` is its date,
-/// in seconds since 1970 UTC.
-pub fn say_busy<O: Sink>(moment: u64, out: &mut O) -> Result<(), SinkFault>
+/// Writes why a connection is refused, in a reply that closes it. If there is no archive, its root is
+/// called damaged. `moment` is the date of the reply, in seconds since 1970 UTC.
+///
+/// `SinkFault` if a write failed. A prefix of the reply was taken, and the sink's count of faults rose.
+pub fn say_refusal<O: Sink>(refusal: Refusal, moment: u64, out: &mut O) -> Result<(), SinkFault>
     requires { IsMoment moment }
-    ensures said { SaysTo O.Sink (word Status.TooManyRequests moment true true) out.old out.new
-        result }
+    ensures said { SaysTo O.Sink (refusal_words moment refusal) out.old out.new result }
     ensures sink { O.alike out.old out.new }
 {
-    say_status(Status::TooManyRequests, moment, true, true, out)
+    match refusal {
+        Refusal::Busy => say_status(Status::TooManyRequests, moment, true, true, out),
+        Refusal::NoMemory => say_status(Status::Unavailable, moment, true, true, out),
+        Refusal::Unopened(why) => say_unopened(why, moment, out),
+    }
 }
 
-/// Writes that memory ran out, in a reply that closes the connection. `moment` is its date, in seconds
-/// since 1970 UTC.
-pub fn say_no_memory<O: Sink>(moment: u64, out: &mut O) -> Result<(), SinkFault>
-    requires { IsMoment moment }
-    ensures said { SaysTo O.Sink (word Status.Unavailable moment true true) out.old out.new result }
-    ensures sink { O.alike out.old out.new }
-{
-    say_status(Status::Unavailable, moment, true, true, out)
-}
-
-/// Writes why an archive was not opened, in a reply that closes the connection. If there is none, its
-/// root is called damaged. `moment` is the date of the reply, in seconds since 1970 UTC.
-pub fn say_unopened<O: Sink>(
-    refusal: OpenRefusal,
-    moment: u64,
-    out: &mut O,
-) -> Result<(), SinkFault>
+/// Writes why an archive was not opened.
+fn say_unopened<O: Sink>(refusal: OpenRefusal, moment: u64, out: &mut O) -> Result<(), SinkFault>
     requires { IsMoment moment }
     ensures said { SaysTo O.Sink (unopened_word refusal moment) out.old out.new result }
     ensures sink { O.alike out.old out.new }
@@ -50,7 +41,7 @@ pub fn say_unopened<O: Sink>(
     match refusal {
         OpenRefusal::NoArchive => say_damaged_file(b"root", b"", 0, moment, out),
         OpenRefusal::DiskFault => say_status(Status::ServerError, moment, true, true, out),
-        OpenRefusal::NoMemory => say_no_memory(moment, out),
+        OpenRefusal::NoMemory => say_status(Status::Unavailable, moment, true, true, out),
         OpenRefusal::Damaged { file, at } => say_damaged(file, at, moment, out),
     }
 }

@@ -1,9 +1,5 @@
 pub mod WordLemmas
 pub mod Walking
 pub mod Acting
-pub mod Turning
 pub mod Streams
-pub mod Doors
 pub mod Digits
-pub mod Replying
-pub mod Counting

@@ -4,7 +4,7 @@ use Rattle.nntp_words.specs.declared.numbers.Range.{Range}
 use Rattle.arch_model.specs.Archives.{Archive, live}
 use Rattle.arch_model.specs.Listings.{number_of_id}
 use Rattle.nntp_reader.specs.Commands.{Article, Current, Numbered, Identified}
-use Rattle.nntp_reader.specs.Numbers.{is_live, live_in, first_of, least_live, greatest_below}
+use Rattle.shelf_doors.specs.Numbers.{is_live, live_in, first_of, least_live, greatest_below}
 use Rattle.nntp_reader.specs.declared.choice.Chosen.{Chosen}
 use Rattle.nntp_reader.specs.declared.group.Group.{Group}
 use Rattle.nntp_reader.specs.declared.group.Group.TheVariants as group

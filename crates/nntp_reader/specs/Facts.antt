@@ -5,7 +5,7 @@ use Rattle.mail_forms.specs.declared.row.Row.{Row}
 use Rattle.arch_model.specs.Archives.{Entry}
 use Rattle.arch_model.specs.Listings.{row_in}
 use Rattle.wire_replies.specs.Blocks.{crlf_line}
-use Rattle.nntp_reader.specs.Numbers.{live_in}
+use Rattle.shelf_doors.specs.Numbers.{live_in}
 use Rattle.nntp_reader.specs.declared.fact.Fact.{Fact}
 use Rattle.nntp_reader.specs.declared.fact.Fact.TheVariants as fact
 

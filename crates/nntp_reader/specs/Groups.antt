@@ -8,7 +8,7 @@ use Rattle.arch_model.specs.Archives.{Archive, live}
 use Rattle.arch_model.specs.Shelves.{live_between}
 use Rattle.wire_replies.specs.Blocks.{crlf_line, block_end}
 use Rattle.nntp_reader.specs.Notices.{notice_line}
-use Rattle.nntp_reader.specs.Numbers.{least_live}
+use Rattle.shelf_doors.specs.Numbers.{least_live}
 use Rattle.nntp_reader.specs.Facts.{fact_lines}
 use Rattle.nntp_reader.specs.declared.fact.Fact.TheVariants as fact
 use Rattle.nntp_reader.specs.declared.group.Group.{Group}

@@ -10,7 +10,7 @@ use Rattle.nntp_reader.specs.Commands.{Articles, Single, Within}
 use Rattle.nntp_reader.specs.Choices.{choice_of, range_start}
 use Rattle.nntp_reader.specs.Facts.{fact_line, fact_lines, header_line}
 use Rattle.nntp_reader.specs.Notices.{notice_line}
-use Rattle.nntp_reader.specs.Numbers.{live_in}
+use Rattle.shelf_doors.specs.Numbers.{live_in}
 use Rattle.nntp_reader.specs.declared.choice.Chosen.{Chosen}
 use Rattle.nntp_reader.specs.declared.fact.Fact.{Fact}
 use Rattle.nntp_reader.specs.declared.group.Group.{Group}

@@ -1,7 +1,6 @@
 pub mod Words
 pub mod Commands
 pub mod Notices
-pub mod Numbers
 pub mod Groups
 pub mod Choices
 pub mod Facts

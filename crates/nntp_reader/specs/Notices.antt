@@ -1,13 +1,9 @@
--- The replies that are one line of fixed words, and the words for what was not read (RFC 3977,
+-- The replies that are one line of fixed words, and the code of those on what was not read (RFC 3977,
 -- section 3.2).
-use Rattle.std.specs.Prelude.{ℕ, List, ◌∷◌, ◌++◌, codes, decimal}
-use Rattle.hex.specs.Hex.{encode_lower}
-use Rattle.arch_model.specs.Delivery.{file_words}
-use Rattle.arch_model.specs.declared.opening.OpenRefusal.{OpenRefusal}
-use Rattle.arch_model.specs.declared.opening.OpenRefusal.TheVariants as opening
-use Rattle.arch_model.specs.declared.text_refusal.TextRefusal.{TextRefusal}
-use Rattle.arch_model.specs.declared.text_refusal.TextRefusal.TheVariants as reading
+use Rattle.std.specs.Prelude.{ℕ, List, codes}
 use Rattle.wire_replies.specs.Blocks.{crlf_line}
+use Rattle.keep_course.specs.declared.refusal.Refusal.{Refusal}
+use Rattle.shelf_doors.specs.Refusals as refusals
 use Rattle.nntp_reader.specs.declared.notice.Notice.{Notice}
 use Rattle.nntp_reader.specs.declared.notice.Notice.TheVariants as notice
 
@@ -35,29 +31,10 @@ notice_line what = crlf_line (notice_words what)
 abbrev pub welcome_line : List ℕ
 welcome_line = notice_line notice.Welcome
 
--- The line for out of memory.
-abbrev pub memory_line : List ℕ
-memory_line = crlf_line (codes "403 out of memory")
+-- What stands before the words for memory, a disk and damage.
+abbrev pub refused_code : List ℕ
+refused_code = codes "403 "
 
--- The line for a fault of the disk.
-abbrev pub disk_line : List ℕ
-disk_line = crlf_line (codes "403 disk fault")
-
--- Why a text was not read. If it is damaged, its id is said, and the id of what was found.
-abbrev pub unread_line : TextRefusal → List ℕ
-unread_line reading.DiskFault = disk_line
-unread_line (reading.Damaged named found) = codes "403 damaged " ++ (encode_lower named.0
-    ++ (32 ∷ crlf_line (encode_lower found.0)))
-unread_line reading.NoMemory = memory_line
-
--- The line for a server that is full.
-abbrev pub busy_line : List ℕ
-busy_line = crlf_line (codes "400 busy")
-
--- Why the archive was not opened. If there is none, its root is damaged.
-abbrev pub unopened_line : OpenRefusal → List ℕ
-unopened_line opening.NoArchive = crlf_line (codes "403 damaged root 0")
-unopened_line (opening.Damaged file at) =
-    codes "403 damaged " ++ (file_words file ++ (32 ∷ crlf_line (decimal at)))
-unopened_line opening.DiskFault = disk_line
-unopened_line opening.NoMemory = memory_line
+-- Why a connection is refused.
+abbrev pub refusal_words : Refusal → List ℕ
+refusal_words why = refusals.refusal_words (crlf_line (codes "400 busy")) refused_code why

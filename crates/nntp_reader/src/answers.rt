@@ -1,13 +1,14 @@
 //! Answers a command.
 //! Reads the disk.
-ghost use Rattle.std.specs.Prelude.{◌≡◌, ◌≤◌, ℕ, List, true};
+ghost use Rattle.std.specs.Prelude.{◌≡◌, ◌≤◌, ℕ, List, true, false};
 ghost use Rattle.arch_base.specs.Moments.{last_moment};
 ghost use Rattle.line_door.specs.Acts.{Acts, held_if, at_sink};
+ghost use Rattle.line_door.specs.Readers.{as_said, line_reader};
 ghost use Rattle.arch_model.specs.OverShelf.{ShelfKept};
 ghost use Rattle.arch_model.specs.Archives.{Archive};
 ghost use Rattle.arch_model.specs.Next.{continues};
 ghost use Rattle.arch_model.specs.Shelves.{ReadsIn};
-ghost use Rattle.nntp_reader.specs.Door.{reader, said_to};
+ghost use Rattle.nntp_reader.specs.Replies.{in_way, reads_text, header_reads};
 ghost use Rattle.nntp_reader.specs.Commands as commands;
 ghost use Rattle.nntp_reader.specs.Counting.{command_texts, header_texts};
 ghost use Rattle.nntp_reader.specs.Sessions.{articles_of, header_of, meant};
@@ -46,10 +47,13 @@ pub(crate) fn say_order<S: Shelf, O: Sink>(
     requires ready { S.ready shelf.old ≡ true }
     requires moment { moment ≤ last_moment }
     ensures acts { (a : Archive) (rest : List ℕ) → S.holds shelf.old a
-        → Acts (said_to moment a group.old (meant order.entry) rest)
+        → Acts (λ way. as_said rest (in_way moment a group.old (meant order.entry) way))
         (at_sink O.Sink out.old (S.faults shelf.old))
-        (held_if (continues result) (reader group.new rest)) a
+        (held_if (continues result) (line_reader group.new rest)) a
         (at_sink O.Sink out.new (S.faults shelf.new)) }
+    ensures unused { (a : Archive) → S.holds shelf.old a
+        → reads_text a group.old (meant order.entry) ≡ false
+        → S.faults shelf.new ≡ S.faults shelf.old }
     ensures shelf { ShelfKept S.Shelf shelf.old shelf.new }
     ensures reads { ReadsIn S.holds (λ a. command_texts a (meant order.entry)) shelf.old
         (S.reads shelf.old) (S.reads shelf.new) }
@@ -105,11 +109,14 @@ fn say_header<S: Shelf, O: Sink>(
 ) -> Next
     requires { S.ready shelf.old ≡ true }
     ensures acts { (moment : ℕ) (a : Archive) (rest : List ℕ) → S.holds shelf.old a
-        → Acts (said_to moment a group
-        (commands.Headers (header_of header.entry) (articles_of articles.entry)) rest)
+        → Acts (λ way. as_said rest (in_way moment a group
+        (commands.Headers (header_of header.entry) (articles_of articles.entry)) way))
         (at_sink O.Sink out.old (S.faults shelf.old))
-        (held_if (continues result) (reader group rest)) a
+        (held_if (continues result) (line_reader group rest)) a
         (at_sink O.Sink out.new (S.faults shelf.new)) }
+    ensures unused { (a : Archive) → S.holds shelf.old a
+        → header_reads a group (header_of header.entry) (articles_of articles.entry) ≡ false
+        → S.faults shelf.new ≡ S.faults shelf.old }
     ensures shelf { ShelfKept S.Shelf shelf.old shelf.new }
     ensures reads { ReadsIn S.holds
         (λ a. header_texts a (header_of header.entry) (articles_of articles.entry)) shelf.old

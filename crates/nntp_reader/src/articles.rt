@@ -1,7 +1,8 @@
 //! What ARTICLE, HEAD, BODY, STAT, NEXT and LAST say.
 //! Reads the disk.
-ghost use Rattle.std.specs.Prelude.{◌≡◌, ◌≤◌, ℕ, List, length, true, is_ok, is_some, option_copied};
+ghost use Rattle.std.specs.Prelude.{◌≡◌, ◌≤◌, ℕ, List, length, true, false, is_ok, is_some, option_copied};
 ghost use Rattle.line_door.specs.Acts.{Acts, held_if, at_sink};
+ghost use Rattle.line_door.specs.Readers.{as_said, line_reader};
 ghost use Rattle.arch_model.specs.OverShelf.{ShelfKept};
 ghost use Rattle.arch_model.specs.Archives.{Archive, live, text_of};
 ghost use Rattle.arch_model.specs.Overviews.{id_fact};
@@ -10,19 +11,20 @@ ghost use Rattle.edge_io.specs.Phrases.{Says, SaysTo};
 ghost use Rattle.nntp_reader.specs.Articles.{header_of, part_code, part_of as bytes_of_part, part_words, text_words, row_id, stat_words, chosen_words, group_chosen, step_words, step_after};
 ghost use Rattle.nntp_reader.specs.Choices.{choice_of, next_of, previous_of};
 ghost use Rattle.nntp_reader.specs.Commands as commands;
-ghost use Rattle.nntp_reader.specs.Door.{reader, said_to};
+ghost use Rattle.nntp_reader.specs.Replies.{in_way};
 ghost use Rattle.nntp_reader.specs.Sessions.{article_of, SaysOrNot};
 
 use crate::choice::{Chosen, choose, next, previous};
 use crate::group::Group;
 use crate::notice::{Notice, say_notice};
 use crate::order::Named;
-use crate::unread::say_unread;
+use crate::refusals::REFUSED;
 use crate::verb::Part;
 use arch_base::Bytes;
 use arch_model::{Row, Shelf};
 use edge_io::{Sink, SinkFault};
 use mail_reader::{body, fields, fields_are_front, own_id};
+use shelf_doors::say_unread;
 use std::alloc::Global;
 use wire_replies::{Phrase, send};
 
@@ -40,10 +42,14 @@ pub(crate) fn say_part<S: Shelf, O: Sink>(
 ) -> Result<(), SinkFault>
     requires { S.ready shelf.old ≡ true }
     ensures acts { (moment : ℕ) (a : Archive) (rest : List ℕ) → S.holds shelf.old a
-        → Acts (said_to moment a group.old (commands.Reads part (article_of article.entry)) rest)
+        → Acts (λ way. as_said rest
+        (in_way moment a group.old (commands.Reads part (article_of article.entry)) way))
         (at_sink O.Sink out.old (S.faults shelf.old))
-        (held_if (is_ok result) (reader group.new rest)) a
+        (held_if (is_ok result) (line_reader group.new rest)) a
         (at_sink O.Sink out.new (S.faults shelf.new)) }
+    ensures unused { (a : Archive) → S.holds shelf.old a
+        → is_ok (choice_of a group.old (article_of article.entry)) ≡ false
+        → S.faults shelf.new ≡ S.faults shelf.old }
     ensures shelf { ShelfKept S.Shelf shelf.old shelf.new }
     ensures reads { ReadsOnce (S.reads shelf.old) (S.reads shelf.new) }
     ensures sink { O.alike out.old out.new }
@@ -80,7 +86,7 @@ fn say_chosen<S: Shelf, O: Sink>(
             *group = chosen.after;
             say_text(part, chosen.shown, text.as_slice(), out)
         }
-        Err(refusal) => say_unread(refusal, out),
+        Err(refusal) => say_unread(REFUSED, refusal, out),
     }
 }
 

@@ -1,9 +1,8 @@
 //! Finds the article that a command is about.
 //! Pure.
-ghost use Rattle.std.specs.Prelude.{◌≡◌, ◌+◌, ◌<◌, ◌≤◌, true, IfOk, IfSome, is_some};
+ghost use Rattle.std.specs.Prelude.{◌≡◌, true, IfOk, is_some};
 ghost use Rattle.arch_model.specs.Archives.{Archive, live, text_of};
 ghost use Rattle.nntp_reader.specs.Choices.{choice_of, current_of, numbered_of, identified_by, if_live as if_live_in, range_start as range_start_of, next_of, previous_of, number_or as number_or_of};
-ghost use Rattle.nntp_reader.specs.Numbers.{live_in, first_of, greatest_below};
 ghost use Rattle.nntp_reader.specs.Sessions.{article_of};
 
 use crate::group::Group;
@@ -11,6 +10,7 @@ use crate::notice::Notice;
 use crate::order::Named;
 use arch_model::{Shelf, is_live};
 use nntp_words::Range;
+use shelf_doors::{live_after, live_before, live_within};
 
 /// A message that a command is about.
 #[derive(Clone, Copy, Debug, Drop)]
@@ -156,47 +156,4 @@ fn number_or(number: Option<u32>, refusal: Notice) -> Result<u32, Notice>
         None => Err(refusal),
         Some(number) => Ok(number),
     }
-}
-
-/// Returns the least live number from `first` to `last`.
-pub(crate) fn live_within<S: Shelf>(first: u32, last: u32, shelf: &S) -> Option<u32>
-    requires { S.ready shelf.now ≡ true }
-    ensures number { (a : Archive) → S.holds shelf.now a
-        → result ≡ first_of (live_in (live a.entries) first last) }
-    ensures live { (a : Archive) → S.holds shelf.now a
-        → IfSome result (λ n. is_some (text_of (live a.entries) n) ≡ true) }
-    ensures within { IfSome result (λ n. (first ≤ n) × (n ≤ last)) }
-{
-    let found = shelf.live_from(first)?;
-    if found < first || found > last {
-        return None;
-    }
-    Some(found)
-}
-
-/// Returns the least live number after `n`, up to `last`.
-pub(crate) fn live_after<S: Shelf>(n: u32, last: u32, shelf: &S) -> Option<u32>
-    requires { S.ready shelf.now ≡ true }
-    ensures number { (a : Archive) → S.holds shelf.now a
-        → result ≡ first_of (live_in (live a.entries) (n + 1) last) }
-    ensures live { (a : Archive) → S.holds shelf.now a
-        → IfSome result (λ m. is_some (text_of (live a.entries) m) ≡ true) }
-    ensures within { IfSome result (λ m. (n < m) × (m ≤ last)) }
-{
-    if n >= last {
-        return None;
-    }
-    live_within(n + 1, last, shelf)
-}
-
-/// Returns the greatest live number before `n`.
-fn live_before<S: Shelf>(n: u32, shelf: &S) -> Option<u32>
-    requires { S.ready shelf.now ≡ true }
-    ensures { (a : Archive) → S.holds shelf.now a
-        → result ≡ greatest_below (live a.entries) n }
-{
-    if n == 0 {
-        return None;
-    }
-    shelf.live_to(n - 1)
 }

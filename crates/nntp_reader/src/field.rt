@@ -1,7 +1,8 @@
 //! What HDR says of a field of texts.
 //! Reads the disk.
-ghost use Rattle.std.specs.Prelude.{◌≡◌, ◌++◌, ℕ, List, length, true, not, is_ok, is_some, if◌then◌else◌};
+ghost use Rattle.std.specs.Prelude.{◌≡◌, ◌++◌, ℕ, List, length, true, false, not, is_some, Ok, if◌then◌else◌};
 ghost use Rattle.line_door.specs.Acts.{Acts, held_if, at_sink};
+ghost use Rattle.line_door.specs.Readers.{as_said, line_reader};
 ghost use Rattle.arch_model.specs.OverShelf.{ShelfKept};
 ghost use Rattle.arch_model.specs.Archives.{Archive, live, text_of};
 ghost use Rattle.arch_model.specs.Next.{continues};
@@ -9,39 +10,30 @@ ghost use Rattle.arch_model.specs.Shelves.{ReadCause, ReadsOnce, ReadsIn};
 ghost use Rattle.edge_io.specs.Phrases.{Says, SaysTo};
 ghost use Rattle.wire_replies.specs.Blocks.{block_end};
 ghost use Rattle.wire_replies.specs.Waits.{Waits};
+ghost use Rattle.nntp_reader.specs.Choices.{range_start as range_start_of};
 ghost use Rattle.nntp_reader.specs.Commands as commands;
 ghost use Rattle.nntp_reader.specs.Counting.{field_texts};
-ghost use Rattle.nntp_reader.specs.Door.{reader, said_to, range_said};
 ghost use Rattle.nntp_reader.specs.Facts.{header_line};
 ghost use Rattle.nntp_reader.specs.Headers.{header_start, field_line};
-ghost use Rattle.nntp_reader.specs.Numbers.{live_in, first_of};
-ghost use Rattle.nntp_reader.specs.Sessions.{articles_of, start_if as start_if_of, ReadsValue, SaysOrNot, TellsValue};
+ghost use Rattle.nntp_reader.specs.Notices.{refused_code};
+ghost use Rattle.nntp_reader.specs.Replies.{in_way, field_reads};
+ghost use Rattle.nntp_reader.specs.Sessions.{articles_of, start_if as start_if_of, ReadsValue, SaysOrNot};
+ghost use Rattle.shelf_doors.specs.Numbers.{live_in};
+ghost use Rattle.shelf_doors.specs.Streams.{StreamsNext};
 
-use crate::choice::{Chosen, choose, live_after, live_within, range_start};
+use crate::choice::{Chosen, choose, range_start};
 use crate::group::Group;
 use crate::notice::say_notice;
 use crate::order::Span;
-use crate::unread::say_unread;
+use crate::refusals::REFUSED;
 use arch_base::{Bytes, NoMemory};
 use arch_model::{Next, Shelf, TextRefusal};
 use edge_io::{Sink, SinkFault};
 use mail_forms::flat_first;
 use nntp_words::Range;
+use shelf_doors::{Streamed, live_after, live_within, say_unread};
 use std::alloc::Global;
 use wire_replies::{Phrase, Waiting, send};
-
-/// What became of the value of one message.
-#[derive(Clone, Copy, Drop)]
-pub(crate) enum Value {
-    /// It was appended to the reply.
-    Said,
-    /// Its text wasn't read, and nothing was said before. The word for that was taken or lost.
-    Unread(Result<(), SinkFault>),
-    /// Its text wasn't read, after something was said.
-    Short,
-    /// A write failed.
-    Lost,
-}
 
 /// Says a field of the named articles, or why there are none, and returns whether the session
 /// continues.
@@ -58,11 +50,14 @@ pub(crate) fn say_field<S: Shelf, O: Sink>(
 ) -> Next
     requires { S.ready shelf.old ≡ true }
     ensures acts { (moment : ℕ) (a : Archive) (rest : List ℕ) → S.holds shelf.old a
-        → Acts (said_to moment a group
-        (commands.Headers (commands.Field name.now) (articles_of articles.entry)) rest)
+        → Acts (λ way. as_said rest (in_way moment a group
+        (commands.Headers (commands.Field name.now) (articles_of articles.entry)) way))
         (at_sink O.Sink out.old (S.faults shelf.old))
-        (held_if (continues result) (reader group rest)) a
+        (held_if (continues result) (line_reader group rest)) a
         (at_sink O.Sink out.new (S.faults shelf.new)) }
+    ensures unused { (a : Archive) → S.holds shelf.old a
+        → field_reads a group (articles_of articles.entry) ≡ false
+        → S.faults shelf.new ≡ S.faults shelf.old }
     ensures shelf { ShelfKept S.Shelf shelf.old shelf.new }
     ensures reads { ReadsIn S.holds (λ a. field_texts a (articles_of articles.entry)) shelf.old
         (S.reads shelf.old) (S.reads shelf.new) }
@@ -102,7 +97,7 @@ fn say_single<S: Shelf, O: Sink>(
 {
     match read_value(name, chosen.number, alloc, shelf) {
         Ok(value) => say_block(chosen.shown, value.as_slice(), out),
-        Err(refusal) => say_unread(refusal, out),
+        Err(refusal) => say_unread(REFUSED, refusal, out),
     }
 }
 
@@ -135,11 +130,12 @@ fn say_range<S: Shelf, O: Sink>(
     out: &mut O,
 ) -> Next
     requires ready { S.ready shelf.old ≡ true }
-    ensures acts { (a : Archive) (rest : List ℕ) → S.holds shelf.old a
-        → is_some (first_of (live_in (live a.entries) range.first range.last)) ≡ true
-        → Acts (range_said a group name.now range rest)
+    ensures acts { (moment : ℕ) (a : Archive) (rest : List ℕ) (n : ℕ) → S.holds shelf.old a
+        → range_start_of a group range ≡ Ok n
+        → Acts (λ way. as_said rest (in_way moment a group
+        (commands.Headers (commands.Field name.now) (commands.Within range)) way))
         (at_sink O.Sink out.old (S.faults shelf.old))
-        (held_if (continues result) (reader group rest)) a
+        (held_if (continues result) (line_reader group rest)) a
         (at_sink O.Sink out.new (S.faults shelf.new)) }
     ensures shelf { ShelfKept S.Shelf shelf.old shelf.new }
     ensures reads { ReadsIn S.holds (λ a. length (live_in (live a.entries) range.first range.last))
@@ -151,19 +147,20 @@ fn say_range<S: Shelf, O: Sink>(
     let mut next = live_within(range.first, range.last, shelf);
     while let Some(number) = next {
         match push_field(name, number, begun, alloc, shelf, &mut reply, out) {
-            Value::Said => {
+            Streamed::Said => {
                 begun = true;
                 next = live_after(number, range.last, shelf);
             }
-            Value::Unread(sent) => return Next::after(sent),
-            Value::Short => {
+            Streamed::Unread(sent) => return Next::after(sent),
+            Streamed::Short => {
                 let _ = reply.flush(out);
                 return Next::Close;
             }
-            Value::Lost => return Next::Close,
+            Streamed::Lost => return Next::Close,
         }
     }
-    Next::after(reply.finish(&[Phrase::Words(b".\r\n")], out))
+    let last = [Phrase::Words(start_if(!begun)), Phrase::Words(b".\r\n")];
+    Next::after(reply.finish(&last, out))
 }
 
 /// Appends the value of one message to a reply that has begun or not, or says why it isn't read.
@@ -175,12 +172,13 @@ fn push_field<S: Shelf, O: Sink>(
     shelf: &mut S,
     reply: &mut Waiting,
     out: &mut O,
-) -> Value
+) -> Streamed
     requires ready { S.ready shelf.old ≡ true }
     requires live { (a : Archive) → S.holds shelf.old a
         → is_some (text_of (live a.entries) number) ≡ true }
     ensures value { (a : Archive) → S.holds shelf.old a
-        → TellsValue name.now number begun (text_of (live a.entries) number) reply.old
+        → StreamsNext refused_code (start_if_of (not begun)
+        ++ field_line name.now number (text_of (live a.entries) number)) begun reply.old
         (at_sink O.Sink out.old (S.faults shelf.old)) result reply.new
         (at_sink O.Sink out.new (S.faults shelf.new)) }
     ensures shelf { ShelfKept S.Shelf shelf.old shelf.new }
@@ -188,23 +186,13 @@ fn push_field<S: Shelf, O: Sink>(
     ensures sink { O.alike out.old out.new }
 {
     match read_value(name, number, alloc, shelf) {
-        Ok(value) => given(push_started(begun, number, value.as_slice(), reply, out)),
+        Ok(value) => Streamed::after(push_started(begun, number, value.as_slice(), reply, out)),
         Err(refusal) => {
             if begun {
-                return Value::Short;
+                return Streamed::Short;
             }
-            Value::Unread(say_unread(refusal, out))
+            Streamed::Unread(say_unread(REFUSED, refusal, out))
         }
-    }
-}
-
-/// Returns what became of a value that was appended.
-fn given(sent: Result<(), SinkFault>) -> Value
-    ensures { result ≡ (if is_ok sent then Value.Said else Value.Lost) }
-{
-    match sent {
-        Ok(()) => Value::Said,
-        Err(SinkFault) => Value::Lost,
     }
 }
 

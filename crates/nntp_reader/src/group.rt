@@ -5,15 +5,15 @@ ghost use Rattle.arch_model.specs.Archives.{Archive, live};
 ghost use Rattle.edge_io.specs.Phrases.{Says, SaysTo};
 ghost use Rattle.wire_replies.specs.Phrases.{words_of};
 ghost use Rattle.nntp_reader.specs.Groups.{low, high, group_head, group_line, selected as selected_of, is_group as is_group_of, group_words, group_after, group_list, list_group_words, list_group_after};
-ghost use Rattle.nntp_reader.specs.Numbers.{least_live};
+ghost use Rattle.shelf_doors.specs.Numbers.{least_live};
 
-use crate::choice::live_within;
 use crate::fact::Fact;
 use crate::notice::{Notice, say_notice};
 use crate::ranges::say_lines;
 use arch_model::Shelf;
 use edge_io::{Sink, SinkFault};
 use nntp_words::Range;
+use shelf_doors::live_within;
 use wire_replies::{Phrase, send};
 
 /// The greatest number that an article may have.

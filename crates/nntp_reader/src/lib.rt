@@ -18,11 +18,10 @@ mod order;
 mod ranges;
 mod refusals;
 mod session;
-mod unread;
 mod verb;
 mod words;
 
 pub use group::Group;
 pub use laws::cut_laws;
-pub use refusals::{say_busy, say_no_memory, say_unopened};
+pub use refusals::say_refusal;
 pub use session::NntpSession;

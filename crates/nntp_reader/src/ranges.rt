@@ -8,11 +8,11 @@ ghost use Rattle.wire_replies.specs.Phrases.{words_of};
 ghost use Rattle.wire_replies.specs.Waits.{Waits};
 ghost use Rattle.nntp_reader.specs.Facts.{fact_lines};
 
-use crate::choice::{live_after, live_within};
 use crate::fact::{Fact, push_fact};
 use arch_model::Shelf;
 use edge_io::{Sink, SinkFault};
 use nntp_words::Range;
+use shelf_doors::{live_after, live_within};
 use wire_replies::{Phrase, Waiting};
 
 /// Says a first line, the lines of the live messages in a range in order, and the end of the block.

@@ -1,21 +1,21 @@
 //! A reader's connection: its group, the bytes not answered yet, and the answer to a piece.
 //! Reads the disk.
-ghost use Rattle.std.specs.Prelude.{◌≡◌, ◌≤◌, ◌+◌, ◌<◌, ◌++◌, ℕ, List, [], length, Some, true, false, if◌then◌else◌};
+ghost use Rattle.std.specs.Prelude.{◌≡◌, ◌≤◌, ◌+◌, ◌<◌, ◌++◌, ℕ, List, [], length, Some, true, false};
 ghost use Rattle.arch_base.specs.Moments.{last_moment};
 ghost use Rattle.line_door.specs.Acts.{Acts, held_if, at_sink};
 ghost use Rattle.line_door.specs.Clipped.{longest_line};
 ghost use Rattle.line_door.specs.Course.{talk};
-ghost use Rattle.keep_course.specs.Courses.{ShelfRun};
 ghost use Rattle.line_door.specs.Lines.{content};
+ghost use Rattle.line_door.specs.Readers.{as_said, line_reader, has_request, with_piece};
 ghost use Rattle.line_door.specs.Skipping.{skipping_front, Unended};
+ghost use Rattle.keep_course.specs.Courses.{ShelfRun};
 ghost use Rattle.arch_model.specs.OverShelf.{ShelfKept};
 ghost use Rattle.arch_model.specs.Archives.{Archive};
 ghost use Rattle.arch_model.specs.Next.{continues};
 ghost use Rattle.arch_model.specs.Shelves.{ReadsIn};
-ghost use Rattle.nntp_reader.specs.Commands.{command_of};
-ghost use Rattle.nntp_reader.specs.Counting.{ReadsLines, NewsActReads, command_texts};
-ghost use Rattle.nntp_reader.specs.Dates.{year_at};
-ghost use Rattle.nntp_reader.specs.Door.{reader, new_reader, greeting, said, said_to, has_request, with_piece};
+ghost use Rattle.nntp_reader.specs.Counting.{ReadsLines, line_texts};
+ghost use Rattle.nntp_reader.specs.Door.{new_reader, greeting, line_uses, news_at};
+ghost use Rattle.nntp_reader.specs.Replies.{line_answered};
 
 use crate::answers::say_order;
 use crate::grammar::read_order;
@@ -24,20 +24,10 @@ use crate::moments::year_of;
 use crate::notice::{Notice, say_notice};
 use arch_model::{Next, Shelf};
 use edge_io::Sink;
-use line_door::{HeldLine, Passage, line_content};
+use line_door::{HeldLine, LineAct, Passage, line_content};
+use shelf_doors::went;
 use std::alloc::Global;
 use std::marker::Model;
-
-/// The result of one act on the bytes at the front.
-#[derive(Clone, Copy, Drop)]
-pub(crate) enum Act {
-    /// A line that took this many bytes of the piece was answered, and the session continues.
-    Went(usize),
-    /// The piece was kept.
-    Kept,
-    /// The session is closed.
-    Closed,
-}
 
 /// A session of a reader.
 ///
@@ -51,15 +41,18 @@ pub struct NntpSession {
 }
 
 impl Model for NntpSession {
-    ghost use Rattle.nntp_reader.specs.Door.{Reader, reader};
+    ghost use Rattle.line_door.specs.Readers.{line_reader};
+    ghost use Rattle.nntp_reader.specs.Door.{Reader};
 
     ghost Value = { Reader };
 
-    ghost view = { λ s. reader s.group s.held };
+    ghost view = { λ s. line_reader s.group s.held };
 }
 
 impl NntpSession {
-    ghost use Rattle.nntp_reader.specs.Sessions.{IsNewsAct, TakesLine};
+    ghost use Rattle.line_door.specs.Turns.{TakesBytes};
+    ghost use Rattle.shelf_doors.specs.Reads.{LineActReads};
+    ghost use Rattle.nntp_reader.specs.Sessions.{IsNewsAct};
 
     /// Opens a session without a group, and says the greeting. Returns whether the session
     /// continues.
@@ -115,13 +108,13 @@ impl NntpSession {
     ) -> Next
         requires ready { S.ready shelf.old ≡ true }
         requires moment { moment ≤ last_moment }
-        ensures fed { (a : Archive) → S.holds shelf.old a → ShelfRun S.Shelf (said moment)
-            has_request shelf.old shelf.new
-            (talk (Some (with_piece piece.now self.old)) a
+        ensures fed { (a : Archive) → S.holds shelf.old a → ShelfRun S.Shelf (news_at moment)
+            shelf.old shelf.new
+            (talk (Some (with_piece longest_line piece.now self.old)) a
             (at_sink O.Sink out.old (S.faults shelf.old)))
             (talk (held_if (continues result) self.new) a
             (at_sink O.Sink out.new (S.faults shelf.new))) }
-        ensures rest { continues result ≡ true → has_request self.new ≡ false }
+        ensures rest { continues result ≡ true → has_request longest_line self.new ≡ false }
         ensures shelf { ShelfKept S.Shelf shelf.old shelf.new }
         ensures reads { ReadsLines S.holds moment (self.old.bytes ++ piece.now) shelf.old
             (S.reads shelf.old) (S.reads shelf.new) }
@@ -130,9 +123,9 @@ impl NntpSession {
         let mut rest = piece;
         loop {
             match self.act(rest, moment, shelf, out) {
-                Act::Went(taken) => rest = rest.split_at(taken).1,
-                Act::Kept => return Next::Go,
-                Act::Closed => return Next::Close,
+                LineAct::Went(taken) => rest = rest.split_at(taken).1,
+                LineAct::Kept => return Next::Go,
+                LineAct::Closed => return Next::Close,
             }
         }
     }
@@ -144,16 +137,20 @@ impl NntpSession {
         moment: u64,
         shelf: &mut S,
         out: &mut O,
-    ) -> Act
+    ) -> LineAct
         requires ready { S.ready shelf.old ≡ true }
         requires moment { moment ≤ last_moment }
         ensures turn { (a : Archive) → S.holds shelf.old a → IsNewsAct moment a self.old piece.now
             (at_sink O.Sink out.old (S.faults shelf.old)) result self.new
             (at_sink O.Sink out.new (S.faults shelf.new)) }
-        ensures takes { TakesLine piece.now result self.new }
+        ensures takes { TakesBytes longest_line piece.now result self.new }
+        ensures unused { (a : Archive) → S.holds shelf.old a
+            → (news_at moment).uses_disk a (with_piece longest_line piece.now self.old) ≡ false
+            → S.faults shelf.new ≡ S.faults shelf.old }
         ensures shelf { ShelfKept S.Shelf shelf.old shelf.new }
-        ensures reads { (a : Archive) → S.holds shelf.old a → NewsActReads moment a self.old piece.now
-            result self.new (S.reads shelf.old) (S.reads shelf.new) }
+        ensures reads { (a : Archive) → S.holds shelf.old a → LineActReads longest_line
+            (line_texts moment a) self.old piece.now result self.new (S.reads shelf.old)
+            (S.reads shelf.new) }
         ensures sink { O.alike out.old out.new }
     {
         match self.held.next(piece) {
@@ -167,7 +164,7 @@ impl NntpSession {
             }
             Passage::More => {
                 self.held.hold(piece);
-                Act::Kept
+                LineAct::Kept
             }
         }
     }
@@ -185,15 +182,18 @@ impl NntpSession {
         requires part { skipping_front longest_line (self.old.bytes ++ line.now) ≡ Unended }
         requires short { length self.old.bytes + length line.now < longest_line }
         ensures acts { (a : Archive) (rest : List ℕ) → S.holds shelf.old a
-            → Acts (said_to moment a self.old.group
-            (command_of (year_at moment) (content (self.old.bytes ++ line.now))) rest)
+            → Acts (λ way. as_said rest (line_answered moment a self.old.state
+            (content (self.old.bytes ++ line.now)) way))
             (at_sink O.Sink out.old (S.faults shelf.old))
-            (held_if (continues result) (reader self.new.group rest)) a
+            (held_if (continues result) (line_reader self.new.state rest)) a
             (at_sink O.Sink out.new (S.faults shelf.new)) }
+        ensures unused { (a : Archive) → S.holds shelf.old a
+            → line_uses moment a self.old.state (content (self.old.bytes ++ line.now)) ≡ false
+            → S.faults shelf.new ≡ S.faults shelf.old }
         ensures empty { self.new.bytes ≡ [] }
         ensures shelf { ShelfKept S.Shelf shelf.old shelf.new }
-        ensures reads { ReadsIn S.holds (λ a. command_texts a
-            (command_of (year_at moment) (content (self.old.bytes ++ line.now)))) shelf.old
+        ensures reads { ReadsIn S.holds
+            (λ a. line_texts moment a (content (self.old.bytes ++ line.now))) shelf.old
             (S.reads shelf.old) (S.reads shelf.new) }
         ensures sink { O.alike out.old out.new }
     {
@@ -202,15 +202,5 @@ impl NntpSession {
         let next = say_order(order, moment, self.alloc, &mut self.group, shelf, out);
         self.held.clear();
         next
-    }
-}
-
-/// Continues after a line that took `taken` bytes of the piece, or closes.
-fn went(taken: usize, next: Next) -> Act
-    ensures { result ≡ (if continues next then Act.Went taken else Act.Closed) }
-{
-    match next {
-        Next::Go => Act::Went(taken),
-        Next::Close => Act::Closed,
     }
 }

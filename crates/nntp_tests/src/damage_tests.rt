@@ -1,11 +1,13 @@
 //! A reader of an archive whose texts are damaged, and the words for what no session answers.
-use crate::connection::{MOMENT, are_lines, two};
+use crate::connection::two;
 use arch_base::Numbers;
 use arch_model::{Next, OpenRefusal};
-use disk_model::{FileKind, FileName};
+use archive_fixtures::{Failing, FailingKeep, Unread, damage};
+use disk_model::FileKind;
 use edge_io::MemSink;
-use failing_archive::{Failing, FailingKeep, Unread};
-use nntp_reader::{NntpSession, say_busy, say_no_memory, say_unopened};
+use fixtures::{MOMENT, are_lines};
+use keep_course::Refusal;
+use nntp_reader::{NntpSession, say_refusal};
 use std::alloc::Global;
 
 /// A stream, the number from which on texts are damaged, the lines that answer it, and whether the
@@ -85,22 +87,10 @@ fn a_damaged_text_is_told(rt: HostRuntime) {
     }
 }
 
-/// Returns the refusal of an archive with a damaged file of a kind.
-fn damage(kind: FileKind, number: u32, at: u64) -> OpenRefusal {
-    OpenRefusal::Damaged {
-        file: FileName {
-            kind,
-            number,
-            generation: 5,
-        },
-        at,
-    }
-}
-
 /// Returns whether the line for a refusal is this.
 fn unopened_is(alloc: Global, refusal: OpenRefusal, line: &[u8]) -> bool {
     let mut out = MemSink::new(alloc, Numbers::new(alloc));
-    say_unopened(refusal, &mut out).is_ok() && are_lines(out.taken(), &[line])
+    say_refusal(Refusal::Unopened(refusal), &mut out).is_ok() && are_lines(out.taken(), &[line])
 }
 
 #[test]
@@ -140,8 +130,8 @@ fn a_damaged_file_is_named(rt: HostRuntime) {
 /// Returns whether the lines for a full server and for want of memory are the door's.
 fn are_said(alloc: Global) -> bool {
     let mut out = MemSink::new(alloc, Numbers::new(alloc));
-    let busy = say_busy(&mut out);
-    let starved = say_no_memory(&mut out);
+    let busy = say_refusal(Refusal::Busy, &mut out);
+    let starved = say_refusal(Refusal::NoMemory, &mut out);
     let lines: [&[u8]; 2] = [b"400 busy", b"403 out of memory"];
     busy.is_ok() && starved.is_ok() && are_lines(out.taken(), &lines)
 }

@@ -1,10 +1,11 @@
 //! A reader of an archive on a disk that fails, and of a connection that loses what is sent.
-use crate::connection::{MOMENT, are_lines, fill, list_config, two};
+use crate::connection::{fill, two};
 use arch_base::Numbers;
 use arch_model::{Keep, Next};
 use archive_core::Engine;
 use disk_model::{FuseDisk, MemDisk};
 use edge_io::MemSink;
+use fixtures::{MOMENT, are_lines, list_config};
 use nntp_reader::NntpSession;
 use std::alloc::Global;
 use std::test::Fail;
@@ -94,7 +95,7 @@ static CASES: [Case; 5] = [
 /// many calls, or `None` if these are too few.
 fn kept(alloc: Global, passes: u64) -> Option<Kept> {
     let disk = FuseDisk::new(MemDisk::new(alloc, Numbers::new(alloc)), passes);
-    let Ok(mut engine) = Engine::make(alloc, disk, &list_config()?) else {
+    let Ok(mut engine) = Engine::make(alloc, disk, &list_config(50_000)?) else {
         return None;
     };
     if !fill(&mut engine) {

@@ -2,13 +2,15 @@
 use Rattle.std.proofs.Common.{get_or, is_some, ◌≡◌, ℕ, Bool, true, false, ◌||◌, List, [], ◌∷◌, Option, Some, None, refl, sym, ap, ◌∙◌, arith, if◌then◌else◌}
 use Rattle.arch_model.specs.Archives.{Archive}
 use Rattle.line_door.specs.Acts.{Departure, Plain, Memory, Disk, Newer}
+use Rattle.line_door.specs.Readers.{LineReply}
 use Rattle.line_door.proofs.Reading.{reader-laws}
+use Rattle.shelf_doors.specs.Ways.{replies, over}
 use Rattle.pop3_reader.specs.Commands.{PopCommand, User, Pass, Quit, Asks, Mistaken}
 use Rattle.pop3_reader.specs.Door.{line_limit}
 use Rattle.pop3_reader.specs.Laws.{PopLaws, IsNotQuit, MaildropStays, ReadsNone, SpeaksOfMaildrop, GoneIfNotLive}
 use Rattle.pop3_reader.specs.Maildrops.{mail_at}
 use Rattle.pop3_reader.specs.Notices.{notice_line, memory_line, disk_line}
-use Rattle.pop3_reader.specs.Replies.{PopReply, replies, answered, in_way, line_answered, too_long, takes_maildrop, reads_text, text_at, is_there, read_words, mail_words}
+use Rattle.pop3_reader.specs.Replies.{PopReply, answered, in_way, line_answered, too_long, takes_maildrop, reads_text, text_at, is_there, read_words, mail_words}
 use Rattle.pop3_reader.specs.declared.maildrop.MailSize.{MailSize}
 use Rattle.pop3_reader.specs.declared.maildrop.Maildrop.{Maildrop}
 use Rattle.pop3_reader.specs.declared.maildrop.PopState.{PopState}
@@ -25,7 +27,7 @@ plain-stays a d Quit other = absurd (other refl)
 plain-stays a d (Asks asked) other = refl
 plain-stays a d Mistaken other = refl
 
-either-stays : (a : Archive) (d : Maildrop) (asked : PopCommand) (line : List ℕ) (t : Bool) → IsNotQuit asked → (if t then replies a (state.Entered d) line else answered a (state.Entered d) asked).state ≡ Some (state.Entered d)
+either-stays : (a : Archive) (d : Maildrop) (asked : PopCommand) (line : List ℕ) (t : Bool) → IsNotQuit asked → (if t then replies (state.Entered d) line else answered a (state.Entered d) asked).state ≡ Some (state.Entered d)
 either-stays a d asked line true other = refl
 either-stays a d asked line false other = plain-stays a d asked other
 
@@ -67,7 +69,7 @@ no-maildrop : (a : Archive) (d : Maildrop) (command : PopCommand) → takes_mail
 no-maildrop a d command = refl
 
 -- Where nothing is read, each way is the plain one.
-by-rules : (a : Archive) (d : Maildrop) (command : PopCommand) (way : Departure) → reads_text a (state.Entered d) command ≡ false → in_way a (state.Entered d) command way ≡ answered a (state.Entered d) command
+by-rules : (a : Archive) (d : Maildrop) (command : PopCommand) (way : Departure) → reads_text a (state.Entered d) command ≡ false → in_way a (state.Entered d) command way ≡ over a (answered a (state.Entered d) command)
 by-rules a d command Plain none = refl
 by-rules a d command Memory none = rw (no-maildrop a d command, none) refl
 by-rules a d command Disk none = rw none refl
@@ -75,9 +77,9 @@ by-rules a d command Newer none = refl
 
 speaks_alone : SpeaksOfMaildrop
 speaks_alone a b d command way other =
-    ap (λ (r : PopReply). r.words) (by-rules a d command way (no-text a d command other))
+    ap (λ (r : LineReply PopState Archive). r.words) (by-rules a d command way (no-text a d command other))
     ∙ plain-alone a b d command other
-    ∙ ap (λ (r : PopReply). r.words) (sym (by-rules b d command way (no-text b d command other)))
+    ∙ ap (λ (r : LineReply PopState Archive). r.words) (sym (by-rules b d command way (no-text b d command other)))
 
 -- The first byte of some words.
 abbrev first_byte : List ℕ → ℕ
@@ -96,7 +98,7 @@ plain-gone : (a : Archive) (d : Maildrop) (what : MailPart) (k : ℕ) (mail : Ma
 plain-gone a d what k mail found is = gone-text what mail (text_at a mail) (sym (ap (mail_words a what) found) ∙ is)
 
 -- A reply with a refusal isn't the line for a message that is gone.
-refused-other : (a : Archive) (s : PopState) (t : Bool) (r : PopReply) (line : List ℕ) (p : Type 0) → (line ≡ notice_line notice.Gone → ⊥) → (r.words ≡ notice_line notice.Gone → p) → (if t then replies a s line else r).words ≡ notice_line notice.Gone → p
+refused-other : (a : Archive) (s : PopState) (t : Bool) (r : PopReply) (line : List ℕ) (p : Type 0) → (line ≡ notice_line notice.Gone → ⊥) → (r.words ≡ notice_line notice.Gone → p) → (if t then replies s line else r).words ≡ notice_line notice.Gone → p
 refused-other a s true r line p never plain is = absurd (never is)
 refused-other a s false r line p never plain is = plain is
 
@@ -123,7 +125,7 @@ gone_if a d what k mail way found = (
   gone-way a d what k mail way found,
   λ none.
       let there : reads_text a (state.Entered d) (Asks (order.Read what k)) ≡ false = ap (is_there a) found ∙ ap is_some none in
-      ap (λ (r : PopReply). r.words) (by-rules a d (Asks (order.Read what k)) way there) ∙ ap (mail_words a what) found ∙ ap (read_words what mail) none,
+      ap (λ (r : LineReply PopState Archive). r.words) (by-rules a d (Asks (order.Read what k)) way there) ∙ ap (mail_words a what) found ∙ ap (read_words what mail) none,
 )
 
 pub pop_laws : PopLaws

@@ -1,13 +1,13 @@
 //! Answers a command.
 //! Reads the disk.
-ghost use Rattle.std.specs.Prelude.{◌≡◌, ◌≤◌, ℕ, List, true, is_ok};
+ghost use Rattle.std.specs.Prelude.{◌≡◌, ◌≤◌, ℕ, List, true, false, is_ok};
 ghost use Rattle.arch_model.specs.OverShelf.{ShelfKept};
 ghost use Rattle.arch_model.specs.Archives.{Archive};
 ghost use Rattle.arch_model.specs.Next.{continues};
 ghost use Rattle.arch_model.specs.Shelves.{ReadsUpTo};
 ghost use Rattle.line_door.specs.Acts.{Acts, held_if, at_sink};
 ghost use Rattle.line_door.specs.Readers.{as_said, line_reader};
-ghost use Rattle.pop3_reader.specs.Replies.{in_way, command_texts};
+ghost use Rattle.pop3_reader.specs.Replies.{in_way, reads_text, command_texts};
 ghost use Rattle.pop3_reader.specs.Commands.{Asks};
 ghost use Rattle.pop3_reader.specs.Sessions.{meant};
 
@@ -37,6 +37,9 @@ pub(crate) fn say_order<S: Shelf, O: Sink>(
         (at_sink O.Sink out.old (S.faults shelf.old))
         (held_if (continues result) (line_reader state.new rest)) a
         (at_sink O.Sink out.new (S.faults shelf.new)) }
+    ensures unused { (a : Archive) → S.holds shelf.old a
+        → reads_text a state.old (meant order.entry) ≡ false
+        → S.faults shelf.new ≡ S.faults shelf.old }
     ensures shelf { ShelfKept S.Shelf shelf.old shelf.new }
     ensures reads { ReadsUpTo (command_texts (meant order.entry)) (S.reads shelf.old)
         (S.reads shelf.new) }
@@ -68,6 +71,8 @@ fn say_asked<S: Shelf, O: Sink>(
         (at_sink O.Sink out.old (S.faults shelf.old))
         (held_if (is_ok result) (line_reader state.now rest)) a
         (at_sink O.Sink out.new (S.faults shelf.new)) }
+    ensures unused { (a : Archive) → S.holds shelf.old a → reads_text a state.now (Asks asked) ≡ false
+        → S.faults shelf.new ≡ S.faults shelf.old }
     ensures shelf { ShelfKept S.Shelf shelf.old shelf.new }
     ensures reads { ReadsUpTo (command_texts (Asks asked)) (S.reads shelf.old) (S.reads shelf.new) }
     ensures sink { O.alike out.old out.new }
@@ -92,6 +97,9 @@ fn say_shown<S: Shelf, O: Sink>(
         (at_sink O.Sink out.old (S.faults shelf.old))
         (held_if (is_ok result) (line_reader (PopState.Entered maildrop.now) rest)) a
         (at_sink O.Sink out.new (S.faults shelf.new)) }
+    ensures unused { (a : Archive) → S.holds shelf.old a
+        → reads_text a (PopState.Entered maildrop.now) (Asks asked) ≡ false
+        → S.faults shelf.new ≡ S.faults shelf.old }
     ensures shelf { ShelfKept S.Shelf shelf.old shelf.new }
     ensures reads { ReadsUpTo (command_texts (Asks asked)) (S.reads shelf.old) (S.reads shelf.new) }
     ensures sink { O.alike out.old out.new }

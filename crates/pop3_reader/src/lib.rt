@@ -16,5 +16,5 @@ mod texts;
 
 pub use laws::door_laws;
 pub use maildrop::{MailSize, Maildrop, PopState};
-pub use refusals::{say_busy, say_no_memory, say_unopened};
+pub use refusals::say_refusal;
 pub use session::Pop3Session;

@@ -11,10 +11,10 @@ ghost use Rattle.pop3_reader.specs.Texts.{entered_words};
 
 use crate::maildrop::{Maildrop, PopState, take_maildrop};
 use crate::notice::{PopNotice, say_notice};
-use crate::refusals::say_no_memory;
+use crate::refusals::REFUSED;
 use arch_model::Shelf;
 use edge_io::{Sink, SinkFault};
-use shelf_doors::{mailbox_named, mailbox_range};
+use shelf_doors::{mailbox_named, mailbox_range, say_memory};
 use std::alloc::Global;
 use wire_replies::{Phrase, send};
 
@@ -45,7 +45,7 @@ pub(crate) fn say_user<S: Shelf, O: Sink>(
 
 /// Says whether a mailbox was accepted.
 fn say_accepted<O: Sink>(index: Option<u64>, out: &mut O) -> Result<(), SinkFault>
-    ensures said { (a : Archive) → SaysTo O.Sink (user_reply a index).words out.old out.new result }
+    ensures said { SaysTo O.Sink (user_reply index).words out.old out.new result }
     ensures sink { O.alike out.old out.new }
 {
     match index {
@@ -103,7 +103,7 @@ fn enter<S: Shelf, O: Sink>(
             *state = PopState::Entered(maildrop);
             said
         }
-        Err(_) => say_no_memory(out),
+        Err(_) => say_memory(REFUSED, out),
     }
 }
 

@@ -28,8 +28,6 @@ pub(crate) enum PopNotice {
     TooLong,
     /// The line spells no command, or one of another state.
     Syntax,
-    /// As many sessions are open as there may be.
-    Busy,
 }
 
 /// Writes the line of a notice.
@@ -48,6 +46,5 @@ pub(crate) fn say_notice<O: Sink>(notice: PopNotice, out: &mut O) -> Result<(), 
         PopNotice::ReadOnly => say(b"-ERR read only\r\n", out),
         PopNotice::TooLong => say(b"-ERR line too long\r\n", out),
         PopNotice::Syntax => say(b"-ERR syntax\r\n", out),
-        PopNotice::Busy => say(b"-ERR busy\r\n", out),
     }
 }

@@ -1,6 +1,6 @@
 //! A client's connection: its state, the bytes not answered yet, and the answer to a piece.
 //! Reads the disk.
-ghost use Rattle.std.specs.Prelude.{◌≡◌, ◌≤◌, ◌+◌, ◌<◌, ◌++◌, ℕ, List, [], length, Some, true, false, if◌then◌else◌};
+ghost use Rattle.std.specs.Prelude.{◌≡◌, ◌≤◌, ◌+◌, ◌<◌, ◌++◌, ℕ, List, [], length, Some, true, false};
 ghost use Rattle.arch_model.specs.OverShelf.{ShelfKept};
 ghost use Rattle.arch_model.specs.Archives.{Archive};
 ghost use Rattle.arch_model.specs.Next.{continues};
@@ -12,7 +12,7 @@ ghost use Rattle.line_door.specs.Course.{talk};
 ghost use Rattle.line_door.specs.Lines.{content};
 ghost use Rattle.line_door.specs.Readers.{as_said, line_reader, has_request, with_piece};
 ghost use Rattle.line_door.specs.Skipping.{skipping_front, Unended};
-ghost use Rattle.pop3_reader.specs.Door.{line_limit, said, new_client, greeting};
+ghost use Rattle.pop3_reader.specs.Door.{line_limit, line_uses, pop_door, new_client, greeting};
 ghost use Rattle.pop3_reader.specs.Replies.{line_answered, line_texts};
 
 use crate::answers::say_order;
@@ -22,6 +22,7 @@ use crate::notice::{PopNotice, say_notice};
 use arch_model::{Next, Shelf};
 use edge_io::Sink;
 use line_door::{HeldPart, LineAct, Passage, line_content};
+use shelf_doors::went;
 use std::alloc::Global;
 use std::marker::Model;
 
@@ -103,8 +104,8 @@ impl Pop3Session {
         out: &mut O,
     ) -> Next
         requires ready { S.ready shelf.old ≡ true }
-        ensures fed { (a : Archive) → S.holds shelf.old a → ShelfRun S.Shelf said
-            (has_request line_limit) shelf.old shelf.new
+        ensures fed { (a : Archive) → S.holds shelf.old a → ShelfRun S.Shelf pop_door
+            shelf.old shelf.new
             (talk (Some (with_piece line_limit piece.now self.old)) a
             (at_sink O.Sink out.old (S.faults shelf.old)))
             (talk (held_if (continues result) self.new) a
@@ -132,6 +133,9 @@ impl Pop3Session {
             (at_sink O.Sink out.old (S.faults shelf.old)) result self.new
             (at_sink O.Sink out.new (S.faults shelf.new)) }
         ensures takes { TakesBytes line_limit piece.now result self.new }
+        ensures unused { (a : Archive) → S.holds shelf.old a
+            → pop_door.uses_disk a (with_piece line_limit piece.now self.old) ≡ false
+            → S.faults shelf.new ≡ S.faults shelf.old }
         ensures shelf { ShelfKept S.Shelf shelf.old shelf.new }
         ensures reads { LineActReads line_limit line_texts self.old piece.now result self.new
             (S.reads shelf.old) (S.reads shelf.new) }
@@ -164,6 +168,9 @@ impl Pop3Session {
             (at_sink O.Sink out.old (S.faults shelf.old))
             (held_if (continues result) (line_reader self.new.state rest)) a
             (at_sink O.Sink out.new (S.faults shelf.new)) }
+        ensures unused { (a : Archive) → S.holds shelf.old a
+            → line_uses a self.old.state (content (self.old.bytes ++ line.now)) ≡ false
+            → S.faults shelf.new ≡ S.faults shelf.old }
         ensures empty { self.new.bytes ≡ [] }
         ensures shelf { ShelfKept S.Shelf shelf.old shelf.new }
         ensures reads { ReadsUpTo (line_texts (content (self.old.bytes ++ line.now)))
@@ -175,15 +182,5 @@ impl Pop3Session {
         let next = say_order(order, self.alloc, &mut self.state, shelf, out);
         self.held.clear();
         next
-    }
-}
-
-/// Continues after a line that took `taken` bytes of the piece, or closes.
-fn went(taken: usize, next: Next) -> LineAct
-    ensures { result ≡ (if continues next then LineAct.Went taken else LineAct.Closed) }
-{
-    match next {
-        Next::Go => LineAct::Went(taken),
-        Next::Close => LineAct::Closed,
     }
 }

@@ -1,6 +1,6 @@
 //! What RETR and TOP say of a message of the maildrop.
 //! Reads the disk.
-ghost use Rattle.std.specs.Prelude.{◌≡◌, ◌≤◌, ◌++◌, ℕ, List, length, true, is_ok, is_some};
+ghost use Rattle.std.specs.Prelude.{◌≡◌, ◌≤◌, ◌++◌, ℕ, List, length, true, false, is_ok, is_some};
 ghost use Rattle.arch_model.specs.OverShelf.{ShelfKept};
 ghost use Rattle.arch_model.specs.Archives.{Archive, live, text_of};
 ghost use Rattle.arch_model.specs.Shelves.{ReadsOnce};
@@ -8,7 +8,7 @@ ghost use Rattle.edge_io.specs.Phrases.{SaysTo};
 ghost use Rattle.line_door.specs.Acts.{Acts, held_if, at_sink};
 ghost use Rattle.line_door.specs.Readers.{as_said, line_reader};
 ghost use Rattle.pop3_reader.specs.Commands as commands;
-ghost use Rattle.pop3_reader.specs.Replies.{in_way};
+ghost use Rattle.pop3_reader.specs.Replies.{in_way, reads_text};
 ghost use Rattle.pop3_reader.specs.Sessions.{SaysMail};
 ghost use Rattle.pop3_reader.specs.Texts.{text_words, first_lines as first_lines_of};
 
@@ -41,6 +41,9 @@ pub(crate) fn say_mail<S: Shelf, O: Sink>(
         (at_sink O.Sink out.old (S.faults shelf.old))
         (held_if (is_ok result) (line_reader (PopState.Entered maildrop.now) rest)) a
         (at_sink O.Sink out.new (S.faults shelf.new)) }
+    ensures unused { (a : Archive) → S.holds shelf.old a
+        → reads_text a (PopState.Entered maildrop.now) (commands.Asks (MailOrder.Read part k)) ≡ false
+        → S.faults shelf.new ≡ S.faults shelf.old }
     ensures shelf { ShelfKept S.Shelf shelf.old shelf.new }
     ensures reads { ReadsOnce (S.reads shelf.old) (S.reads shelf.new) }
     ensures sink { O.alike out.old out.new }

@@ -1,10 +1,11 @@
 //! A client of an archive on a disk that fails, and of a connection that loses what is sent.
-use crate::connection::{MOMENT, are_lines, fill, list_config, three};
+use crate::connection::{fill, three};
 use arch_base::Numbers;
 use arch_model::{Keep, Next};
 use archive_core::Engine;
 use disk_model::{FuseDisk, MemDisk};
 use edge_io::MemSink;
+use fixtures::{MOMENT, are_lines, list_config};
 use pop3_reader::Pop3Session;
 use std::alloc::Global;
 use std::test::Fail;
@@ -65,7 +66,7 @@ static CASES: [Case; 2] = [
 /// calls, or `None` if these are too few.
 fn kept(alloc: Global, passes: u64) -> Option<Kept> {
     let disk = FuseDisk::new(MemDisk::new(alloc, Numbers::new(alloc)), passes);
-    let Ok(mut engine) = Engine::make(alloc, disk, &list_config()?) else {
+    let Ok(mut engine) = Engine::make(alloc, disk, &list_config(2)?) else {
         return None;
     };
     if !fill(&mut engine) {

@@ -1,11 +1,13 @@
 //! The words for what no session answers, and for texts that are damaged.
-use crate::connection::{MOMENT, are_lines, three};
+use crate::connection::three;
 use arch_base::Numbers;
 use arch_model::{Next, OpenRefusal};
-use disk_model::{FileKind, FileName};
+use archive_fixtures::{Failing, FailingKeep, Unread, damage};
+use disk_model::FileKind;
 use edge_io::MemSink;
-use failing_archive::{Failing, FailingKeep, Unread};
-use pop3_reader::{Pop3Session, say_busy, say_no_memory, say_unopened};
+use fixtures::{MOMENT, are_lines};
+use keep_course::Refusal;
+use pop3_reader::{Pop3Session, say_refusal};
 use std::alloc::Global;
 
 /// The line that names the two ids.
@@ -41,22 +43,10 @@ fn a_damaged_text_is_told(rt: HostRuntime) {
     assert!(rt; is_told(rt.alloc()) == Some(true));
 }
 
-/// Returns the refusal of an archive with a damaged file of a kind.
-fn damage(kind: FileKind, number: u32, at: u64) -> OpenRefusal {
-    OpenRefusal::Damaged {
-        file: FileName {
-            kind,
-            number,
-            generation: 5,
-        },
-        at,
-    }
-}
-
 /// Returns whether the line for a refusal is this.
 fn unopened_is(alloc: Global, refusal: OpenRefusal, line: &[u8]) -> bool {
     let mut out = MemSink::new(alloc, Numbers::new(alloc));
-    say_unopened(refusal, &mut out).is_ok() && are_lines(out.taken(), &[line])
+    say_refusal(Refusal::Unopened(refusal), &mut out).is_ok() && are_lines(out.taken(), &[line])
 }
 
 #[test]
@@ -87,8 +77,8 @@ fn a_damaged_file_is_named(rt: HostRuntime) {
 /// Returns whether the lines for a full server and for want of memory are the door's.
 fn are_said(alloc: Global) -> bool {
     let mut out = MemSink::new(alloc, Numbers::new(alloc));
-    let busy = say_busy(&mut out);
-    let starved = say_no_memory(&mut out);
+    let busy = say_refusal(Refusal::Busy, &mut out);
+    let starved = say_refusal(Refusal::NoMemory, &mut out);
     let lines: [&[u8]; 2] = [b"-ERR busy", b"-ERR out of memory"];
     busy.is_ok() && starved.is_ok() && are_lines(out.taken(), &lines)
 }

@@ -1,8 +1,9 @@
 use Rattle.std.proofs.Common.{false, None, refl}
 use Rattle.arch_model.specs.KeeperRecord.{keeper}
+use Rattle.arch_model.specs.Archives.{live, text_of}
 use Rattle.arch_model.specs.Standing.{standing}
 use Rattle.control_door.specs.Requests.{Shows, Threads, Lists, Quits, Mistakes, Exceeds}
-use Rattle.control_door.proofs.Answering.{answers-read, answers-held, acts-quitting, acts-mistaken, acts-exceeding}
+use Rattle.control_door.proofs.Answering.{asked-showing, answers-read, answers-held, acts-quitting, acts-mistaken, acts-exceeding}
 use Rattle.control_door.proofs.Counting.{reads-none, reads-once}
 use Rattle.control_door.proofs.answers.say_requested.Goals as goal
 
@@ -14,7 +15,8 @@ returns-in-Joined-clause-acts g c = rw (c.in-Joined.is, c.after-in-Joined.ensure
 
 pub returns-in-Text-clause-acts : goal.returns-in-Text-clause-acts
 returns-in-Text-clause-acts g c = rw (c.in-Text.is, c.after-in-Text.ensures)
-    (answers-read (keeper g.K.Shelf g.K.Keep) g.met.K.Keep.holds_files_are g.met.K.Keep.holds_left c.args.moment (Shows c.in-Text.number) c.args.keep.now _ _ _ _ (g.met.K.Keep.alike_kept _ _ c.say_message.ensures.shelf.same) (c.say_message.ensures.acts c.args.moment))
+    (answers-read (keeper g.K.Shelf g.K.Keep) g.met.K.Keep.holds_files_are g.met.K.Keep.holds_left c.args.moment (Shows c.in-Text.number) c.args.keep.now _ _ _ _ (g.met.K.Keep.alike_kept _ _ c.say_message.ensures.shelf.same) (c.say_message.ensures.acts c.args.moment)
+    (λ a rest held. asked-showing (keeper g.K.Shelf g.K.Keep) c.args.moment (standing a None) (text_of (live a.entries) c.in-Text.number) _ c.args.keep.now _ _ _ _ _ c.say_message.ensures.shelf.same (c.say_message.ensures.unused a held)))
 
 pub returns-in-Removal-clause-acts : goal.returns-in-Removal-clause-acts
 returns-in-Removal-clause-acts g c = rw (c.in-Removal.is, c.after-in-Removal.ensures) c.say_commanded-in-Removal.ensures.acts
@@ -24,26 +26,31 @@ returns-in-Purge-clause-acts g c = rw (c.in-Purge.is, c.after-in-Purge.ensures) 
 
 pub returns-in-Thread-clause-acts : goal.returns-in-Thread-clause-acts
 returns-in-Thread-clause-acts g c = rw (c.in-Thread.is, c.after-in-Thread.ensures)
-    (answers-read (keeper g.K.Shelf g.K.Keep) g.met.K.Keep.holds_files_are g.met.K.Keep.holds_left c.args.moment (Threads c.in-Thread.number) c.args.keep.now c.args.keep.now _ _ _ (g.met.K.Keep.alike_kept _ _ (g.met.K.Shelf.alike_same c.args.keep.now)) (c.say_thread.ensures.acts c.args.moment))
+    (answers-read (keeper g.K.Shelf g.K.Keep) g.met.K.Keep.holds_files_are g.met.K.Keep.holds_left c.args.moment (Threads c.in-Thread.number) c.args.keep.now c.args.keep.now _ _ _ (g.met.K.Keep.alike_kept _ _ (g.met.K.Shelf.alike_same c.args.keep.now)) (c.say_thread.ensures.acts c.args.moment)
+    (λ a rest held. (g.met.K.Shelf.alike_same c.args.keep.now, refl)))
 
 pub returns-in-Epochs-clause-acts : goal.returns-in-Epochs-clause-acts
 returns-in-Epochs-clause-acts g c = rw (c.in-Epochs.is, c.after-in-Epochs.ensures)
-    (answers-read (keeper g.K.Shelf g.K.Keep) g.met.K.Keep.holds_files_are g.met.K.Keep.holds_left c.args.moment Lists c.args.keep.now _ _ _ _ (g.met.K.Keep.alike_kept _ _ c.say_epochs.ensures.shelf.same) (c.say_epochs.ensures.acts c.args.moment))
+    (answers-read (keeper g.K.Shelf g.K.Keep) g.met.K.Keep.holds_files_are g.met.K.Keep.holds_left c.args.moment Lists c.args.keep.now _ _ _ _ (g.met.K.Keep.alike_kept _ _ c.say_epochs.ensures.shelf.same) (c.say_epochs.ensures.acts c.args.moment)
+    (λ a rest held. c.say_epochs.ensures.shelf.same))
 
 pub returns-in-Reindexing-clause-acts : goal.returns-in-Reindexing-clause-acts
 returns-in-Reindexing-clause-acts g c = rw (c.in-Reindexing.is, c.after-in-Reindexing.ensures) (c.say_reindexing.ensures.acts c.args.moment)
 
 pub returns-in-Quit-clause-acts : goal.returns-in-Quit-clause-acts
 returns-in-Quit-clause-acts g c = rw c.in-Quit.is
-    (answers-held (keeper g.K.Shelf g.K.Keep) g.met.K.Keep.holds_files_are g.met.K.Keep.holds_left c.args.moment Quits c.args.keep.now _ _ false (λ a rest. acts-quitting c.args.moment (standing a None) rest _))
+    (answers-held (keeper g.K.Shelf g.K.Keep) g.met.K.Keep.holds_files_are g.met.K.Keep.holds_left c.args.moment Quits c.args.keep.now _ _ false (λ a rest. acts-quitting c.args.moment (standing a None) rest _)
+    (λ a rest. (g.met.K.Shelf.alike_same c.args.keep.now, refl)))
 
 pub returns-in-Mistake-clause-acts : goal.returns-in-Mistake-clause-acts
 returns-in-Mistake-clause-acts g c = rw (c.in-Mistake.is, c.after-in-Mistake.ensures)
-    (answers-held (keeper g.K.Shelf g.K.Keep) g.met.K.Keep.holds_files_are g.met.K.Keep.holds_left c.args.moment Mistakes c.args.keep.now _ _ _ (λ a rest. acts-mistaken c.args.moment (standing a None) rest _ _ _ refl c.say_bad.ensures.said))
+    (answers-held (keeper g.K.Shelf g.K.Keep) g.met.K.Keep.holds_files_are g.met.K.Keep.holds_left c.args.moment Mistakes c.args.keep.now _ _ _ (λ a rest. acts-mistaken c.args.moment (standing a None) rest _ _ _ refl c.say_bad.ensures.said)
+    (λ a rest. (g.met.K.Shelf.alike_same c.args.keep.now, refl)))
 
 pub returns-in-Excess-clause-acts : goal.returns-in-Excess-clause-acts
 returns-in-Excess-clause-acts g c = rw c.in-Excess.is
-    (answers-held (keeper g.K.Shelf g.K.Keep) g.met.K.Keep.holds_files_are g.met.K.Keep.holds_left c.args.moment Exceeds c.args.keep.now _ _ false (λ a rest. acts-exceeding c.args.moment (standing a None) rest _ _ _ refl c.say_bad-in-Excess.ensures.said))
+    (answers-held (keeper g.K.Shelf g.K.Keep) g.met.K.Keep.holds_files_are g.met.K.Keep.holds_left c.args.moment Exceeds c.args.keep.now _ _ false (λ a rest. acts-exceeding c.args.moment (standing a None) rest _ _ _ refl c.say_bad-in-Excess.ensures.said)
+    (λ a rest. (g.met.K.Shelf.alike_same c.args.keep.now, refl)))
 
 pub returns-in-Message-clause-reads : goal.returns-in-Message-clause-reads
 returns-in-Message-clause-reads g c = rw c.in-Message.is (rw c.command_of.ensures at c.say_commanded.ensures.reads)

@@ -1,7 +1,7 @@
 use Rattle.std.proofs.Common.{refl, sym, ◌∙◌}
 use Rattle.http_front.proofs.Counting.{head-served}
 use Rattle.http_front.proofs.Finding.{reads-none as no-reads}
-use Rattle.http_front.proofs.Serving.{reads-some, reads-none, acts-bad, acts-refused, acts-served}
+use Rattle.http_front.proofs.Serving.{serve-spares, reads-some, reads-none, acts-bad, acts-refused, acts-served}
 use Rattle.http_front.specs.Reading.{asked_in}
 use Rattle.http_front.proofs.answer.answer_head.Goals as goal
 
@@ -32,3 +32,9 @@ returns-in-Refuse-clause-reads g c = λ a held. no-reads _ _
 
 pub returns-in-None-clause-reads : goal.returns-in-None-clause-reads
 returns-in-None-clause-reads g c = λ a held. no-reads _ _
+
+pub returns-in-Serve-clause-unused : goal.returns-in-Serve-clause-unused
+returns-in-Serve-clause-unused g c = λ a held spares.
+    let read = c.in-Some.ensures.some in
+    let found = reads-some c.args.head.now read.0 _ read.1 read.2 in
+    c.serve.ensures.unused a held (serve-spares a (asked_in c.args.head.now) _ c.in-Serve.sends found (sym c.judge.ensures ∙ c.in-Serve.is) spares)

@@ -1,10 +1,11 @@
 use Rattle.std.proofs.Common.{◌∙◌, ◌&&◌, not, List, ℕ, Bool, length, ap, sym, refl, arith}
+use Rattle.std.proofs.lemmas.Bool.{false≢true}
 use Rattle.http_front.specs.Asking.{Gives, Streams, target_found, target_reads, target_texts}
 use Rattle.http_front.specs.Counting.{target_said}
 use Rattle.http_front.specs.Mailboxes.{mailbox_at}
 use Rattle.http_heads.specs.declared.reply.Body.TheVariants.{Mailbox}
 use Rattle.http_front.proofs.Counting.{reads-within, reads-then}
-use Rattle.http_front.proofs.Serving.{acts-mailbox, acts-whole, acts-missing, acts-bad_range, acts-unread}
+use Rattle.http_front.proofs.Serving.{refused-spares, acts-mailbox, acts-whole, acts-missing, acts-bad_range, acts-unread}
 use Rattle.http_front.proofs.answer.serve.Goals as goal
 
 pub returns-in-Ok-Whole-clause-acts : goal.returns-in-Ok-Whole-clause-acts
@@ -60,3 +61,17 @@ pub returns-in-Ok-Mails-clause-reads : goal.returns-in-Ok-Mails-clause-reads
 returns-in-Ok-Mails-clause-reads g c = λ a held.
     let left = rw c.in-Ok-Mails.field-0-is at (c.in-Ok-Mails.ensures.left a held) in
     reads-then (target_texts a c.args.request.now.target.now) (target_said a c.args.request.now.target.now) (length c.as_slice-in-Ok-Mails.result.now) _ _ _ c.args.sends (c.in-Ok-Mails.ensures.reads a held) (omega (arith, ap length c.as_slice-in-Ok-Mails.ensures, left)) c.say_mails.ensures.reads
+
+pub returns-in-Ok-EveryMail-clause-unused : goal.returns-in-Ok-EveryMail-clause-unused
+returns-in-Ok-EveryMail-clause-unused g c = λ a held spares.
+    let found = rw c.in-Ok-EveryMail.field-0-is at (c.in-Ok-EveryMail.ensures.found a held) in
+    absurd (false≢true (sym spares ∙ found.1))
+
+pub returns-in-Ok-Mails-clause-unused : goal.returns-in-Ok-Mails-clause-unused
+returns-in-Ok-Mails-clause-unused g c = λ a held spares.
+    let found = rw c.in-Ok-Mails.field-0-is at (c.in-Ok-Mails.ensures.found a held) in
+    absurd (false≢true (sym spares ∙ found.1))
+
+pub returns-in-Err-clause-unused : goal.returns-in-Err-clause-unused
+returns-in-Err-clause-unused g c = λ a held spares.
+    refused-spares a (target_found a c.args.request.now.target.now) (target_reads a c.args.request.now.target.now) c.in-Err.refusal _ _ (c.in-Err.ensures.found a held) c.in-Err.ensures.cause spares

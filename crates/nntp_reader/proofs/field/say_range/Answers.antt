@@ -1,9 +1,28 @@
-use Rattle.std.proofs.Common.{◌≡◌, ◌+◌, ◌∙◌, true, IfSome, is_some, refl, sym, subst, rules}
+use Rattle.std.proofs.Common.{◌≡◌, ◌+◌, ◌++◌, ◌∙◌, true, not, IfSome, is_some, List, ℕ, ap, refl, sym, subst, rules}
 use Rattle.arch_model.specs.Archives.{live, text_of}
-use Rattle.arch_model.proofs.Shelving.{stays-joined}
-use Rattle.nntp_reader.proofs.Counting.{ahead-all, ahead-number, last-number}
-use Rattle.nntp_reader.proofs.Streams.{begun-said, begun-unread, begun-lost, begun-short, begun-all}
+use Rattle.arch_model.proofs.Shelving.{stays-same, stays-joined}
+use Rattle.line_door.specs.Readers.{as_said, line_reader}
+use Rattle.shelf_doors.proofs.Reading.{ahead-none, ahead-all}
+use Rattle.shelf_doors.proofs.Streaming.{under-start, under-more, under-lost, under-unread, under-short, under-all}
+use Rattle.shelf_doors.proofs.Walking.{ahead-number, last-number}
+use Rattle.nntp_reader.specs.Commands.{Headers, Field, Within}
+use Rattle.nntp_reader.specs.Headers.{field_at, fields_block}
+use Rattle.nntp_reader.specs.Notices.{refused_code}
+use Rattle.nntp_reader.specs.Replies.{in_way}
+use Rattle.nntp_reader.specs.Sessions.{start_if}
+use Rattle.nntp_reader.proofs.Streams.{fields_left, left-value, left-none, left-some, value-some, range-streamed}
+use Rattle.nntp_reader.proofs.Walking.{fields-rest}
 use Rattle.nntp_reader.proofs.field.say_range.Goals as goal
+
+pub loop-next-init : goal.loop-next-init
+loop-next-init g c = record {
+  so_far = λ a held. (c.args.range.first, c.live_within-next.ensures.number a held, rw c.new-reply.ensures (under-start (fields_block c.args.name.now (live a.entries) c.args.range.first c.args.range.last) _));
+  reads = λ a held. (c.args.range.first, c.live_within-next.ensures.number a held, ahead-none _ _);
+  alive = c.live_within-next.ensures.live;
+  within = search rules;
+  shelf = stays-same g.S.Shelf.holds g.S.Shelf.ready g.S.Shelf.alike g.S.Shelf.faults g.met.S.Shelf.alike_same c.args.shelf.now c.requires.ready;
+  sink = g.met.O.Sink.alike_same _;
+}
 
 pub push_field-requires-clause-live : goal.push_field-requires-clause-live
 push_field-requires-clause-live g c = λ a held.
@@ -16,7 +35,9 @@ loop-next-preserved g c = record {
       let now = c.loop-next.invariant.shelf.kept a held in (
         c.in-Some.number + 1,
         c.live_after-next.ensures.number a (c.push_field.ensures.shelf.kept a now),
-        begun-said c.args.name.now (live a.entries) c.args.range c.loop-next.begun before.0 c.in-Some.number _ c.loop-next.reply _ c.push_field.new.reply _ before.2 (sym before.1 ∙ c.in-Some.is) (c.in-Said.ensures.value a now),
+        under-more _ _ _ _ _ _ before.2 (start_if (not c.loop-next.begun) ++ field_at c.args.name.now (live a.entries) c.in-Some.number) _ c.push_field.new.reply _
+            (left-value c.args.name.now (live a.entries) c.loop-next.begun before.0 c.args.range.last c.in-Some.number (fields-rest c.args.name.now (live a.entries) before.0 c.args.range.last c.in-Some.number (sym before.1 ∙ c.in-Some.is)))
+            (value-some c.args.name.now (live a.entries) c.loop-next.begun c.in-Some.number (subst (λ o. IfSome o (λ n. is_some (text_of (live a.entries) n) ≡ true)) c.in-Some.is (c.loop-next.invariant.alive a now))) (c.in-Said.ensures.value a now),
       );
   reads = λ a held.
       let before = c.loop-next.invariant.reads a held in
@@ -29,24 +50,35 @@ loop-next-preserved g c = record {
 }
 
 pub returns-in-Unread-clause-acts : goal.returns-in-Unread-clause-acts
-returns-in-Unread-clause-acts g c = λ a rest held there.
+returns-in-Unread-clause-acts g c = λ moment a rest n held start.
     let before = c.loop-next.invariant.so_far a held in
-    rw c.after.ensures (begun-unread a c.args.group c.args.name.now c.args.range rest c.loop-next.begun before.0 _ c.loop-next.reply _ before.2 c.in-Some.number c.push_field.new.reply _ c.in-Unread.sent (c.in-Unread.ensures.value a (c.loop-next.invariant.shelf.kept a held)))
+    let unread = c.in-Unread.ensures.value a (c.loop-next.invariant.shelf.kept a held) in
+    rw c.after.ensures
+    (under-unread (λ way. as_said rest (in_way moment a c.args.group (Headers (Field c.args.name.now) (Within c.args.range)) way)) a (line_reader c.args.group rest) _ refused_code true
+    (range-streamed moment a c.args.group c.args.name.now c.args.range rest n start) _ _ _ _ c.loop-next.begun before.2 _ c.in-Unread.sent unread.0 (λ rose. refl) unread.2)
 
 pub returns-in-Short-clause-acts : goal.returns-in-Short-clause-acts
-returns-in-Short-clause-acts g c = λ a rest held there.
+returns-in-Short-clause-acts g c = λ moment a rest n held start.
     let before = c.loop-next.invariant.so_far a held in
-    begun-short a c.args.group c.args.name.now c.args.range rest c.loop-next.begun before.0 _ c.loop-next.reply _ before.2 c.in-Some.number c.push_field.new.reply _ _ c.flush.result (c.in-Short.ensures.value a (c.loop-next.invariant.shelf.kept a held)) refl c.flush.ensures.said
+    let short = c.in-Short.ensures.value a (c.loop-next.invariant.shelf.kept a held) in
+    under-short (λ way. as_said rest (in_way moment a c.args.group (Headers (Field c.args.name.now) (Within c.args.range)) way)) a (line_reader c.args.group rest) _ refused_code true
+    (range-streamed moment a c.args.group c.args.name.now c.args.range rest n start) _ _ _ _ c.loop-next.begun before.2 c.push_field.new.reply _ _ c.flush.result short.0 (left-some c.args.name.now (live a.entries) c.loop-next.begun before.0 c.args.range.last) short.1 refl c.flush.ensures.said
 
 pub returns-in-Lost-clause-acts : goal.returns-in-Lost-clause-acts
-returns-in-Lost-clause-acts g c = λ a rest held there.
+returns-in-Lost-clause-acts g c = λ moment a rest n held start.
     let before = c.loop-next.invariant.so_far a held in
-    begun-lost a c.args.group c.args.name.now c.args.range rest c.loop-next.begun before.0 _ c.loop-next.reply _ before.2 c.in-Some.number c.push_field.new.reply _ (sym before.1 ∙ c.in-Some.is) (c.in-Lost.ensures.value a (c.loop-next.invariant.shelf.kept a held))
+    let lost = c.in-Lost.ensures.value a (c.loop-next.invariant.shelf.kept a held) in
+    under-lost (λ way. as_said rest (in_way moment a c.args.group (Headers (Field c.args.name.now) (Within c.args.range)) way)) a (line_reader c.args.group rest) _ refused_code true
+    (range-streamed moment a c.args.group c.args.name.now c.args.range rest n start) _ _ _ _ c.loop-next.begun before.2 (start_if (not c.loop-next.begun) ++ field_at c.args.name.now (live a.entries) c.in-Some.number) _ c.push_field.new.reply _ lost.0
+    (left-value c.args.name.now (live a.entries) c.loop-next.begun before.0 c.args.range.last c.in-Some.number (fields-rest c.args.name.now (live a.entries) before.0 c.args.range.last c.in-Some.number (sym before.1 ∙ c.in-Some.is))) lost.1
 
 pub returns-clause-acts : goal.returns-clause-acts
-returns-clause-acts g c = λ a rest held there.
+returns-clause-acts g c = λ moment a rest n held start.
     let before = c.loop-next.invariant.so_far a held in
-    rw c.after-2.ensures (begun-all a c.args.group c.args.name.now c.args.range rest c.loop-next.begun before.0 _ c.loop-next.reply _ before.2 _ c.finish.result there (sym before.1 ∙ c.in_default.is) refl c.finish.ensures.said)
+    let none = left-none c.args.name.now (live a.entries) c.loop-next.begun before.0 c.args.range.last (sym before.1 ∙ c.in_default.is) in
+    rw c.after-2.ensures
+    (under-all (λ way. as_said rest (in_way moment a c.args.group (Headers (Field c.args.name.now) (Within c.args.range)) way)) a (line_reader c.args.group rest) _ refused_code true
+    (range-streamed moment a c.args.group c.args.name.now c.args.range rest n start) _ _ _ _ c.loop-next.begun before.2 _ c.finish.result refl (rw (none, ← c.start_if.ensures) c.finish.ensures.said))
 
 pub returns-in-Unread-clause-reads : goal.returns-in-Unread-clause-reads
 returns-in-Unread-clause-reads g c = λ a held.

@@ -3,7 +3,7 @@ use Rattle.arch_model.specs.Listings.{row_in}
 use Rattle.wire_replies.specs.Blocks.{block_end}
 use Rattle.wire_replies.specs.Phrases.{words_of}
 use Rattle.nntp_reader.specs.Facts.{fact_line}
-use Rattle.nntp_reader.proofs.Replying.{first-failed, second-failed, three-said}
+use Rattle.shelf_doors.proofs.Replying.{first-failed, second-failed, three-said}
 use Rattle.nntp_reader.proofs.header.say_single.Goals as goal
 
 pub returns-in_err-push-clause-said : goal.returns-in_err-push-clause-said

@@ -1,9 +1,9 @@
 use Rattle.std.proofs.Common.{◌≡◌, ◌≤◌, ℕ, IfSome}
 use Rattle.arch_model.specs.Archives.{Archive, live}
 use Rattle.nntp_reader.specs.Facts.{fact_lines}
-use Rattle.nntp_reader.specs.Numbers.{live_in, first_of}
+use Rattle.shelf_doors.specs.Numbers.{live_in, first_of}
 use Rattle.wire_replies.proofs.Wording.{SoFar}
-use Rattle.nntp_reader.proofs.Walking.{numbers_left}
+use Rattle.shelf_doors.proofs.Walking.{numbers_left}
 use Rattle.nntp_reader.proofs.ranges.push_lines.Given as goal
 
 abbrev pub invariant-loop-next : goal.invariant-loop-next

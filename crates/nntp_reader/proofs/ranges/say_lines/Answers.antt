@@ -2,7 +2,7 @@ use Rattle.arch_model.specs.Archives.{live}
 use Rattle.wire_replies.specs.Blocks.{block_end}
 use Rattle.wire_replies.specs.Phrases.{words_of}
 use Rattle.nntp_reader.specs.Facts.{fact_lines}
-use Rattle.nntp_reader.proofs.Replying.{first-failed, second-failed, three-said}
+use Rattle.shelf_doors.proofs.Replying.{first-failed, second-failed, three-said}
 use Rattle.nntp_reader.proofs.ranges.say_lines.Goals as goal
 
 pub returns-in_err-push-clause-said : goal.returns-in_err-push-clause-said

@@ -13,3 +13,6 @@ returns-in-Pass-clause-acts g c = λ a rest held.
 pub returns-in-Asks-clause-acts : goal.returns-in-Asks-clause-acts
 returns-in-Asks-clause-acts g c = λ a rest held.
     rw (c.after-in-Asks.ensures, ap meant c.in-Asks.is) (c.say_asked.ensures.acts a rest held)
+
+pub returns-in-Asks-clause-unused : goal.returns-in-Asks-clause-unused
+returns-in-Asks-clause-unused g c = λ a held spares. c.say_asked.ensures.unused a held (rw (ap meant c.in-Asks.is) at spares)

@@ -1,7 +1,6 @@
-use Rattle.std.proofs.Common.{◌++◌, ◌∙◌, inl, inr, sym, ap}
+use Rattle.std.proofs.Common.{◌++◌, ◌∙◌, inl, inr, refl, sym, ap}
 use Rattle.arch_model.specs.KeeperRecord.{keeper}
 use Rattle.arch_model.specs.Next.{continues}
-use Rattle.control_door.specs.Requests.{is_asked}
 use Rattle.control_door.specs.Sessions.{request_of}
 use Rattle.control_door.proofs.Answering.{turns-answered, turns-opened, turns-held}
 use Rattle.control_door.proofs.Counting.{turn-reads, opened-reads, rest-reads, rest-is, never-rest, never-opened}
@@ -9,7 +8,7 @@ use Rattle.control_door.proofs.Holding.{held-unfinished}
 use Rattle.control_door.proofs.session.Session.act.Goals as goal
 
 pub returns-in-Rest-clause-turn : goal.returns-in-Rest-clause-turn
-returns-in-Rest-clause-turn g c = turns-held (keeper g.K.Shelf g.K.Keep) c.args.moment c.args.opened c.args.self.now c.args.piece.now c.args.keep.now _ c.hold.result _ _ (ap is_asked (held-unfinished (c.args.self.now ++ c.args.piece.now) c.in-Rest.payload c.in-Rest.ensures)) (λ s. c.hold.ensures.turn c.args.moment (g.K.Shelf.faults c.args.keep.now) c.args.opened s)
+returns-in-Rest-clause-turn g c = turns-held (keeper g.K.Shelf g.K.Keep) c.args.moment c.args.opened c.args.self.now c.args.piece.now c.args.keep.now _ c.hold.result _ _ (held-unfinished (c.args.self.now ++ c.args.piece.now) c.in-Rest.payload c.in-Rest.ensures) (g.met.K.Shelf.alike_same c.args.keep.now) refl (λ s. c.hold.ensures.turn c.args.moment (g.K.Shelf.faults c.args.keep.now) c.args.opened s)
 
 pub returns-then-not-opened-clause-turn : goal.returns-then-not-opened-clause-turn
 returns-then-not-opened-clause-turn g c = rw (c.reopened.ensures, c.if-not-opened.true)

@@ -6,7 +6,7 @@ use Rattle.arch_model.specs.KeeperRecord.{keeper}
 use Rattle.arch_model.specs.Keeping.{MatchesKnown}
 use Rattle.arch_model.specs.Standing.{LastKnown}
 use Rattle.control_door.specs.Counting.{asks_for}
-use Rattle.control_door.specs.Door.{waiting, said, has_request, reopens}
+use Rattle.control_door.specs.Door.{waiting, control_at}
 use Rattle.control_door.specs.Requests.{is_request}
 use Rattle.control_door.proofs.Counting.{Left}
 use Rattle.control_door.proofs.session.Session.feed.Given as goal
@@ -16,7 +16,7 @@ invariant-loop-opened g l = record {
   going :
       (s : LastKnown) → MatchesKnown (keeper g.K.Shelf g.K.Keep) l.fn.keep s →
       (t : LastKnown) × MatchesKnown (keeper g.K.Shelf g.K.Keep) l.keep t
-      × KeeperRunning (keeper g.K.Shelf g.K.Keep) (said l.moment) has_request reopens l.fn.keep l.keep
+      × KeeperRunning (keeper g.K.Shelf g.K.Keep) (control_at l.moment) l.fn.keep l.keep
       (talk (Some (waiting (l.fn.self ++ l.fn.piece) true)) s (outside (g.O.Sink.taken l.fn.out) (g.K.Shelf.faults l.fn.keep) (g.O.Sink.faults l.fn.out)))
       (talk (Some (waiting (l.self ++ l.rest) l.opened)) t (outside (g.O.Sink.taken l.out) (g.K.Shelf.faults l.keep) (g.O.Sink.faults l.out)));
   reads : Left (asks_for (l.fn.self ++ l.fn.piece)) (asks_for (l.self ++ l.rest)) (is_request (l.self ++ l.rest)) (g.K.Shelf.ready l.keep) (g.K.Shelf.reads l.fn.keep) (g.K.Shelf.reads l.keep);

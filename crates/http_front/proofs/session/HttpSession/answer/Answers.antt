@@ -17,3 +17,13 @@ pub returns-clause-reads : goal.returns-clause-reads
 returns-clause-reads g c = λ a held.
     let bytes = c.as_slice.ensures ∙ c.join.ensures ∙ ap (λ (h : List ℕ). h ++ c.args.last.now) c.self.view_is in
     rw bytes at (c.answer_head-next.ensures.reads a held)
+
+pub returns-then-len-eq0-clause-unused : goal.returns-then-len-eq0-clause-unused
+returns-then-len-eq0-clause-unused g c = λ a held.
+    let none : c.args.self.now ≡ [] = nil_from_length c.args.self.now (grind (arith, nat_tests, ap length c.self.view_is)) in
+    rw none (c.answer_head.ensures.unused a held)
+
+pub returns-clause-unused : goal.returns-clause-unused
+returns-clause-unused g c = λ a held.
+    let bytes = c.as_slice.ensures ∙ c.join.ensures ∙ ap (λ (h : List ℕ). h ++ c.args.last.now) c.self.view_is in
+    rw bytes at (c.answer_head-next.ensures.unused a held)

@@ -3,10 +3,13 @@ use Rattle.line_door.specs.Clipped.{clipped}
 use Rattle.line_door.specs.Skipping.{Skipped, skipping_front}
 use Rattle.line_door.proofs.Turning.{line-held, line-part, turn-line, turn-skipped, turn-kept, part-kept}
 use Rattle.arch_model.specs.Next.{continues}
+use Rattle.shelf_doors.proofs.Acting.{acts-always}
 use Rattle.shelf_doors.proofs.Reading.{line-reads, skipped-reads}
-use Rattle.pop3_reader.specs.Door.{PopClient, line_limit}
+use Rattle.keep_course.proofs.LineUses.{line-spares}
+use Rattle.pop3_reader.specs.Door.{PopClient, line_limit, line_uses}
+use Rattle.pop3_reader.specs.Notices.{notice_line}
+use Rattle.pop3_reader.specs.declared.notice.PopNotice.TheVariants as notice
 use Rattle.pop3_reader.specs.Replies.{line_answered, too_long, line_texts}
-use Rattle.pop3_reader.proofs.Acting.{acts-long}
 use Rattle.pop3_reader.proofs.session.Pop3Session.act.Goals as goal
 
 pub answer-requires-clause-part : goal.answer-requires-clause-part
@@ -27,7 +30,7 @@ returns-in-Skipped-clause-turn g c = λ a held.
     let is : skipping_front line_limit (c.self.inside.held ++ c.args.piece.now) ≡ Skipped (drop (c.in-Skipped.end + 1) c.args.piece.now) = c.in-Skipped.ensures.1 in
     rw (← c.self.view_is, c.went-in-Skipped.ensures)
     (turn-skipped line_limit line_answered too_long a c.self.inside.state c.self.inside.held c.args.piece.now c.clear.new.self c.self.inside.state (c.in-Skipped.end + 1) _ _ (continues c.after.result) is c.clear.ensures
-    (acts-long a c.self.inside.state (clipped line_limit (drop (c.in-Skipped.end + 1) c.args.piece.now)) _ _ c.say_notice.result (continues c.after.result) c.after.ensures refl c.say_notice.ensures.said))
+    (acts-always a c.self.inside.state (clipped line_limit (drop (c.in-Skipped.end + 1) c.args.piece.now)) (notice_line notice.TooLong) _ _ c.say_notice.result (continues c.after.result) c.after.ensures refl c.say_notice.ensures.said))
 
 pub returns-in-More-clause-turn : goal.returns-in-More-clause-turn
 returns-in-More-clause-turn g c = λ a held.
@@ -48,3 +51,9 @@ returns-in-Skipped-clause-reads g c =
     let is : skipping_front line_limit (c.self.inside.held ++ c.args.piece.now) ≡ Skipped (drop (c.in-Skipped.end + 1) c.args.piece.now) = c.in-Skipped.ensures.1 in
     rw (← c.self.view_is, c.went-in-Skipped.ensures)
     (skipped-reads line_limit line_texts c.self.inside.state c.self.inside.held c.args.piece.now c.clear.new.self (c.in-Skipped.end + 1) (continues c.after.result) _ is c.clear.ensures)
+
+pub returns-in-Line-clause-unused : goal.returns-in-Line-clause-unused
+returns-in-Line-clause-unused g c = λ a held spares.
+    let bytes = ap (λ (r : PopClient). r.bytes) c.self.view_is in
+    let is = line-held line_limit c.self.inside.held c.args.self.now.bytes c.args.piece.now c.split_at.result.0.now c.in-Line.end bytes c.in-Line.ensures c.split_at.ensures.front in
+    c.answer.ensures.unused a held (line-spares line_limit line_uses a c.args.self.now.state (c.args.self.now.bytes ++ c.args.piece.now) (c.args.self.now.bytes ++ c.split_at.result.0.now) _ is spares)

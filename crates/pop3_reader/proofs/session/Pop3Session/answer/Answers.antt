@@ -23,3 +23,12 @@ returns-clause-reads g c =
     let command : meant c.read_order-order.result ≡ command_of (content (c.args.self.now.bytes ++ c.args.line.now)) =
     c.read_order-order.ensures ∙ ap command_of (c.line_content.ensures ∙ ap content whole) in
     rw command at c.say_order-next.ensures.reads
+
+pub returns-clause-unused : goal.returns-clause-unused
+returns-clause-unused g c = λ a held.
+    let state = ap (λ (r : PopClient). r.state) c.self.view_is in
+    let bytes = ap (λ (r : PopClient). r.bytes) c.self.view_is in
+    let whole : c.as_slice.result.now ≡ c.args.self.now.bytes ++ c.args.line.now = c.as_slice.ensures.value ∙ c.hold.ensures ∙ ap (λ (x : List ℕ). held_of line_limit (x ++ c.args.line.now)) bytes ∙ line-whole line_limit c.args.self.now.bytes c.args.line.now c.requires.short in
+    let command : meant c.read_order-order.result ≡ command_of (content (c.args.self.now.bytes ++ c.args.line.now)) =
+    c.read_order-order.ensures ∙ ap command_of (c.line_content.ensures ∙ ap content whole) in
+    rw (state, command) at (c.say_order-next.ensures.unused a held)

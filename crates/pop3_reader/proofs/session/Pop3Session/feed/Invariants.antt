@@ -1,12 +1,12 @@
 use Rattle.std.proofs.Common.{◌++◌, length, Some}
 use Rattle.line_door.specs.Acts.{outside}
 use Rattle.line_door.specs.Costs.{lines_cost}
-use Rattle.keep_course.specs.Courses.{KeptAlong, ShelfActs, SessionRunning}
+use Rattle.keep_course.specs.Courses.{ShelfRunning}
 use Rattle.line_door.specs.Course.{talk}
-use Rattle.line_door.specs.Readers.{has_request, with_piece}
+use Rattle.line_door.specs.Readers.{with_piece}
 use Rattle.arch_model.specs.Archives.{Archive}
 use Rattle.arch_model.specs.Shelves.{ShelfStays, ReadsAhead}
-use Rattle.pop3_reader.specs.Door.{line_limit, said}
+use Rattle.pop3_reader.specs.Door.{line_limit, pop_door}
 use Rattle.pop3_reader.specs.Replies.{line_texts}
 use Rattle.pop3_reader.proofs.session.Pop3Session.feed.Given as goal
 
@@ -14,7 +14,7 @@ abbrev pub invariant-loop-taken : goal.invariant-loop-taken
 invariant-loop-taken g l = record {
   going :
       (a : Archive) → g.S.Shelf.holds l.fn.shelf a →
-      SessionRunning (KeptAlong (ShelfActs g.S.Shelf)) said (has_request line_limit) l.fn.shelf l.shelf
+      ShelfRunning g.S.Shelf pop_door l.fn.shelf l.shelf
       (talk (Some (with_piece line_limit l.fn.piece l.fn.self)) a (outside (g.O.Sink.taken l.fn.out) (g.S.Shelf.faults l.fn.shelf) (g.O.Sink.faults l.fn.out)))
       (talk (Some (with_piece line_limit l.rest l.self)) a (outside (g.O.Sink.taken l.out) (g.S.Shelf.faults l.shelf) (g.O.Sink.faults l.out)));
   reads : ReadsAhead (lines_cost line_limit line_texts (l.fn.self.bytes ++ l.fn.piece)) (lines_cost line_limit line_texts (l.self.bytes ++ l.rest)) (g.S.Shelf.reads l.fn.shelf) (g.S.Shelf.reads l.shelf);

@@ -1,4 +1,0 @@
-use Rattle.nntp_reader.proofs.refusals.say_damaged_epoch.Goals as goal
-
-pub returns-clause-said : goal.returns-clause-said
-returns-clause-said g c = rw c.from.ensures at c.send.ensures.said
