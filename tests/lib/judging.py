@@ -11,6 +11,10 @@ TESTS = os.path.dirname(os.path.dirname(os.path.realpath(__file__)))
 REPO = os.path.dirname(TESTS)
 SECONDS_OF_A_RUN = 240
 
+# A shell without jobs starts what it runs in the background with SIGINT ignored, and so would be each
+# program that a test starts and ends by it.
+signal.signal(signal.SIGINT, signal.default_int_handler)
+
 passed, failed, skipped = 0, 0, 0
 
 

@@ -16,7 +16,7 @@ with warnings.catch_warnings():
         nntplib = None
 
 ANSWER = 15
-LISTENS = b"piv2: listening at 127.0.0.1: port %d for commands, %d for pages (HTTP), %d for news (NNTP), %d for mail (POP3)\n"
+LISTENS = b"piv2: listening at 127.0.0.1: port %d for commands, %d for pages (HTTP), %d for news (NNTP), %d for mailboxes (IMAP), %d for mail (POP3), %d for deliveries (LMTP)\n"
 ENDED = b"piv2: the input ended; serving ended\n"
 
 
@@ -40,12 +40,12 @@ def free_port(chance):
 
 def listens(port):
     """Returns the line in which a server at a port says where it listens."""
-    return LISTENS % (port, port + 1, port + 2, port + 4)
+    return LISTENS % tuple(range(port, port + 6))
 
 
 def cant_listen(port):
     """Returns what a server says that can't listen at its first port."""
-    said = f"can't listen at ports {port}, {port + 1}, {port + 2} and {port + 4} of 127.0.0.1; port=N asks for others"
+    said = f"can't listen at ports {port} to {port + 5} of 127.0.0.1; port=N asks for others"
     return f"piv2: {said}\npiv2: sockets: Address already in use\n".encode()
 
 
