@@ -5,14 +5,9 @@ use arch_model::Keep;
 use archive_core::{Engine, NotMade};
 use disk_model::MemDisk;
 use epoch_store::InitRefusal;
+use fixtures::{LIMIT, MAX, settings};
 use load_run::{GREATEST_LOAD, LoadCounts, LoadRefusal, load};
 use std::alloc::Global;
-use store_tests::settings;
-
-/// The default limits: the least length of an epoch in bytes, and the greatest number.
-pub(crate) const LIMIT: u64 = 1_073_741_824;
-
-pub(crate) const MAX: u32 = 2_147_483_647;
 
 /// A load run: how many messages of which seed.
 #[derive(Clone, Copy, Drop)]

@@ -1,7 +1,7 @@
 //! Load runs over disks of which one call fails.
 use crate::archives::{Run, fill, made};
 use epoch_store::InitRefusal;
-use epoch_tests::failing;
+use fixtures::failing;
 use load_run::{LoadCounts, LoadRefusal};
 use std::alloc::Global;
 use std::test::Fail;

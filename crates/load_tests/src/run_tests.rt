@@ -1,12 +1,12 @@
 //! The counts of load runs over archives in memory and on disks. Those that are expected were worked
 //! out with plain lists outside of this program.
-use crate::archives::{LIMIT, MAX, Run, fill, made};
+use crate::archives::{Run, fill, made};
 use arch_base::Bytes;
-use epoch_tests::empty_disk;
+use archive_fixtures::in_memory;
+use fixtures::{LIMIT, MAX, empty_disk};
 use std::alloc::Global;
 use std::process::Abort;
 use std::test::Fail;
-use store_tests::in_memory;
 
 /// A load run, and the line of its counts.
 struct Counted {

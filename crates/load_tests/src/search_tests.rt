@@ -4,7 +4,7 @@ use arch_base::{Bytes, LAST_MOMENT, decimal};
 use arch_model::{Answer, Command, Keep, Shelf};
 use archive_core::Engine;
 use disk_model::MemDisk;
-use epoch_tests::{MOMENT, empty_disk};
+use fixtures::{MOMENT, empty_disk};
 use load_run::{drawn, next_state, push_mail};
 use query_lang::read;
 use std::alloc::Global;

@@ -5,7 +5,7 @@ use crate::opening_tests::{begin, listed_after, opened};
 use arch_model::OpenRefusal;
 use disk_model::{Disk, DiskFault, FileKind, FileName, MemDisk};
 use epoch_store::Store;
-use epoch_tests::{SECOND, cut, empty_disk, write};
+use fixtures::{SECOND, cut, empty_disk, write};
 use std::alloc::Global;
 use std::process::Abort;
 use std::test::Fail;

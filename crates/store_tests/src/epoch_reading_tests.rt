@@ -1,11 +1,11 @@
 //! Epochs that are read whole, by disks in memory.
 use crate::making_tests::fill;
-use crate::memory::{is_epoch_of, two_in_memory};
 use arch_base::{Bytes, NoMemory};
 use arch_model::TextRefusal;
+use archive_fixtures::{is_epoch_of, two_in_memory};
 use disk_model::Disk;
 use epoch_store::Store;
-use epoch_tests::{empty_disk, failing};
+use fixtures::{empty_disk, failing};
 use mem_archive::MemArchive;
 use std::alloc::Global;
 use std::process::Abort;

@@ -8,7 +8,7 @@ use crate::removal_tests::remove_first;
 use arch_model::OpenRefusal;
 use disk_model::{Disk, DiskFault, MemDisk};
 use epoch_file::StoreRefusal;
-use epoch_tests::{FIRST, SECOND, failing, write};
+use fixtures::{FIRST, SECOND, failing, write};
 use std::alloc::Global;
 use std::process::Abort;
 use std::test::Fail;

@@ -10,7 +10,7 @@ use arch_model::OpenRefusal;
 use disk_model::{Disk, DiskFault, FileKind, MemDisk};
 use epoch_file::{NewEntry, StoreRefusal};
 use epoch_store::Store;
-use epoch_tests::{FIRST, MOMENT, OTHER, SECOND, THIRD, add_entry, empty_disk, write};
+use fixtures::{FIRST, MOMENT, OTHER, SECOND, THIRD, add_entry, empty_disk, write};
 use git_objects::{EntryKind, blob_id};
 use mail_commits::text_ids;
 use number_map::{Record, append};

@@ -1,10 +1,5 @@
-//! Tests of stores on disks in memory, by their public calls alone; and archives in memory, with
-//! which these and the tests of the crate above compare them.
+//! Tests of stores on disks in memory, by their public calls alone, beside archives in memory.
 #![tactic(auto)]
-
-mod memory;
-
-pub use memory::{in_memory, is_epoch_of, settings, two_in_memory};
 
 #[cfg(test)]
 mod damage_tests;

@@ -5,13 +5,15 @@ ghost use Rattle.git_objects.specs.Objects.{blob_id_of};
 ghost use Rattle.mail_reader.specs.Ids.{own_id as own_id_in};
 ghost use Rattle.epoch_store.specs.Commands.{Accepts, StoreHasSizes};
 
-use crate::memory::{is_epoch_of, settings, two_in_memory};
 use arch_base::{Bytes, NoMemory, id_of_hex};
 use arch_model::TextRefusal;
+use archive_fixtures::{is_epoch_of, two_in_memory};
 use disk_model::{Disk, DiskFault, FileKind, FileName, FuseDisk, MemDisk};
 use epoch_file::StoreRefusal;
 use epoch_store::{InitRefusal, Store};
-use epoch_tests::{FIRST, FIRST_ID, MOMENT, SECOND, SECOND_COMMIT, SECOND_ID, empty_disk, write};
+use fixtures::{
+    FIRST, FIRST_ID, MOMENT, SECOND, SECOND_COMMIT, SECOND_ID, empty_disk, settings, write,
+};
 use git_objects::{EntryKind, blob_id};
 use mail_commits::text_ids;
 use mail_reader::{is_stored, own_id};

@@ -11,7 +11,7 @@ use arch_model::{EntryLine, OpenRefusal};
 use disk_model::{Disk, FuseDisk, MemDisk};
 use epoch_file::StoreRefusal;
 use epoch_store::Store;
-use epoch_tests::{FIRST, SECOND, empty_disk};
+use fixtures::{FIRST, SECOND, empty_disk};
 use std::alloc::Global;
 use std::process::Abort;
 use std::test::Fail;

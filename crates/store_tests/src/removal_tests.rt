@@ -11,15 +11,13 @@ use crate::joining_tests::{
     Case, Entry, Line, ONE, Outcome, Placed, is_opened_so, opens_with, written,
 };
 use crate::making_tests::{FIRST_EPOCH, MAP, ROOT, SECOND_EPOCH, epoch, make, put};
-use crate::memory::{in_memory, is_epoch_of};
 use arch_base::{Bytes, NoMemory, id_of_hex};
 use arch_model::{Command, OpenRefusal, TextRefusal};
+use archive_fixtures::{in_memory, is_epoch_of};
 use disk_model::{Disk, MemDisk};
 use epoch_file::StoreRefusal;
 use epoch_store::Store;
-use epoch_tests::{
-    FIRST, FIRST_ID, LATER, MOMENT, OTHER, REMOVAL_COMMIT, SECOND, THIRD, empty_disk,
-};
+use fixtures::{FIRST, FIRST_ID, LATER, MOMENT, OTHER, REMOVAL_COMMIT, SECOND, THIRD, empty_disk};
 use git_objects::{EntryKind, blob_id};
 use mail_commits::text_ids;
 use mail_reader::own_id;
