@@ -58,7 +58,7 @@ fn is_bad_piece(alloc: Global, line: &str, len: usize) -> Result<bool, AllocErro
 }
 
 /// Scripts and their numbers of events.
-const WHOLE: [(&str, u64); 13] = [
+const WHOLE: [(&str, u64); 16] = [
     ("", 0),
     ("0 q\n", 1),
     ("253402300799 s\n", 1),
@@ -67,6 +67,9 @@ const WHOLE: [(&str, u64); 13] = [
     ("5 e 1\n", 1),
     ("5 o 65535 nntp\n", 1),
     ("5 o 1 http\n", 1),
+    ("5 o 1 imap\n", 1),
+    ("5 o 1 pop3\n", 1),
+    ("5 o 1 lmtp\n", 1),
     ("5 o 0 control\n5 o 7 nntp\n", 2),
     ("5 e 65535\n", 1),
     ("5 b 1 1\n\n\n", 1),
@@ -85,7 +88,7 @@ fn whole_scripts_are_read(rt: HostRuntime) -> Result<(), Fail> {
 }
 
 /// Texts that are no scripts, and the first bad event of each, from 1.
-const BAD: [(&str, u64); 24] = [
+const BAD: [(&str, u64); 25] = [
     ("5 x 1\n", 1),
     ("5 q", 1),
     ("\n", 1),
@@ -104,7 +107,8 @@ const BAD: [(&str, u64); 24] = [
     ("5 o 65536 control\n", 1),
     ("5 o 1 Control\n", 1),
     ("5 o 1 HTTP\n", 1),
-    ("5 o 1 imap\n", 1),
+    ("5 o 1 IMAP\n", 1),
+    ("5 o 1 smtp\n", 1),
     ("5 e 65536\n", 1),
     ("5 q\nx", 2),
     ("5 q\n\n", 2),
