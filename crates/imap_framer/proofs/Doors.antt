@@ -6,15 +6,15 @@ use Rattle.line_door.specs.Plain.{silent}
 use Rattle.line_door.specs.Cuts.{more_of, said_with, CutDoor, DoorLaws}
 use Rattle.line_door.proofs.Cutting.{door_laws}
 use Rattle.imap_framer.specs.Framing.{PartFront, LastPart, LiteralPart, ExcessPart, OpenPart, Framing, with_octets, room_of, front_of}
-use Rattle.imap_framer.specs.Doors.{is_answered, only_rest, held_with, state_with, crash_beside, rest_said, said_at, framed_said, framed_request, framed_more, framed_size, FramedLaw}
+use Rattle.imap_framer.specs.Doors.{is_answered, only_rest, held_with, state_with, beside, rest_said, said_at, framed_said, framed_request, framed_more, framed_size, FramedLaw}
 use Rattle.imap_framer.proofs.Goings.{front_more, more-answered, front_goes_on, rest_of, front_shorter}
 
 state-more : {S : Type 0} (q : List ℕ) (f : Framing) (o : Option S) → state_with (with_octets f q) o ≡ more_of (framed_more q) (state_with f o)
 state-more q f None = refl
 state-more q f (Some state) = refl
 
-crash_beside-more : {S A : Type 0} (q : List ℕ) (f : Framing) (s : Said S A) → crash_beside (with_octets f q) s ≡ said_with (framed_more q) (crash_beside f s)
-crash_beside-more {S} {A} q f s = λ i. record { next = state-more q f s.next i; words = s.words; streamed = s.streamed; after = s.after }
+beside-more : {S A : Type 0} (q : List ℕ) (f : Framing) (s : Said S A) → beside (with_octets f q) s ≡ said_with (framed_more q) (beside f s)
+beside-more {S} {A} q f s = λ i. record { next = state-more q f s.next i; words = s.words; streamed = s.streamed; after = s.after }
 
 state-is : {S : Type 0} (f : Framing) (o : Option S) (k : S × Framing) → state_with f o ≡ Some k → k.1 ≡ f
 state-is f None k e = absurd (cc)
@@ -35,8 +35,8 @@ module _ {S A : Type 0} (literals : S → Bool) (answer : A → S → List ℕ �
     (go_on : A → S → Departure → Said S A) (too_long no_memory : A → S → List ℕ) where
   stays-at : (q : List ℕ) (a : A) (h : S × Framing) (way : Departure) (f : PartFront) → is_answered f ≡ true
       → said_at literals answer go_on too_long no_memory a (framed_more q h) (front_more q f) way ≡ said_with (framed_more q) (said_at literals answer go_on too_long no_memory a h f way)
-  stays-at q a h way (LastPart part rest) is = crash_beside-more q (only_rest rest) (answer a h.0 (h.1.held ++ part) way)
-  stays-at q a h way (LiteralPart part n rest) is = crash_beside-more q (held_with h.1 part n rest) (go_on a h.0 way)
+  stays-at q a h way (LastPart part rest) is = beside-more q (only_rest rest) (answer a h.0 (h.1.held ++ part) way)
+  stays-at q a h way (LiteralPart part n rest) is = beside-more q (held_with h.1 part n rest) (go_on a h.0 way)
   stays-at q a h way (ExcessPart rest) is = refl
   stays-at q a h way OpenPart is = absurd (cc)
 

@@ -27,8 +27,8 @@ state_with f None = None
 state_with f (Some state) = Some (state, f)
 
 -- The same words, where the session after them is the state with what is held.
-abbrev pub crash_beside : {S A : Type 0} → Framing → Said S A → Said (S × Framing) A
-crash_beside f s = record {
+abbrev pub beside : {S A : Type 0} → Framing → Said S A → Said (S × Framing) A
+beside f s = record {
   next = state_with f s.next;
   words = s.words;
   streamed = s.streamed;
@@ -54,8 +54,8 @@ module _ {S A : Type 0} (literals : S → Bool) (answer : A → S → List ℕ �
 
   -- What the front of the octets says in each way. A command is all its parts.
   abbrev pub said_at : A → S × Framing → PartFront → Departure → Said (S × Framing) A
-  said_at a h (LastPart part rest) way = crash_beside (only_rest rest) (answer a h.0 (h.1.held ++ part) way)
-  said_at a h (LiteralPart part n rest) way = crash_beside (held_with h.1 part n rest) (go_on a h.0 way)
+  said_at a h (LastPart part rest) way = beside (only_rest rest) (answer a h.0 (h.1.held ++ part) way)
+  said_at a h (LiteralPart part n rest) way = beside (held_with h.1 part n rest) (go_on a h.0 way)
   said_at a h (ExcessPart rest) way = closes a (too_long a h.0)
   said_at a h OpenPart way = rest_said a h way
 

@@ -10,18 +10,18 @@ use Rattle.imap_items.specs.Sections.{nth_tree}
 use Rattle.imap_items.specs.Finding.{after_deeper}
 
 -- A forest that is split at a greater depth and then at a lesser one.
-twice : (deep less : Bool) → (deep ≡ true → less ≡ true) → (d e : ℕ) (q : Part) (below crash_beside : Forest)
-    → (nat_lt d q.depth ≡ less) → (split_at d (split_at e crash_beside).others).others ≡ (split_at d crash_beside).others
-    → (split_at d (cond deep (split_after q below (split_at e crash_beside)) (split Bare (Tree q below crash_beside))).others).others
-    ≡ (cond less (split_after q below (split_at d crash_beside)) (split Bare (Tree q below crash_beside))).others
-twice true true f d e q below crash_beside t h = h
-twice true false f d e q below crash_beside t h = absurd (let z = f refl in cc)
-twice false less f d e q below crash_beside t h = ap (λ b. (cond b (split_after q below (split_at d crash_beside)) (split Bare (Tree q below crash_beside))).others) t
+twice : (deep less : Bool) → (deep ≡ true → less ≡ true) → (d e : ℕ) (q : Part) (below beside : Forest)
+    → (nat_lt d q.depth ≡ less) → (split_at d (split_at e beside).others).others ≡ (split_at d beside).others
+    → (split_at d (cond deep (split_after q below (split_at e beside)) (split Bare (Tree q below beside))).others).others
+    ≡ (cond less (split_after q below (split_at d beside)) (split Bare (Tree q below beside))).others
+twice true true f d e q below beside t h = h
+twice true false f d e q below beside t h = absurd (let z = f refl in cc)
+twice false less f d e q below beside t h = ap (λ b. (cond b (split_after q below (split_at d beside)) (split Bare (Tree q below beside))).others) t
 
 pub split-others : (d e : ℕ) (f : Forest) → d < e → (split_at d (split_at e f).others).others ≡ (split_at d f).others
 split-others d e Bare h = refl
-split-others d e (Tree q below crash_beside) h =
-    twice (nat_lt e q.depth) (nat_lt d q.depth) (λ t. grind (arith, nat_tests, t, h)) d e q below crash_beside refl (split-others d e crash_beside h)
+split-others d e (Tree q below beside) h =
+    twice (nat_lt e q.depth) (nat_lt d q.depth) (λ t. grind (arith, nat_tests, t, h)) d e q below beside refl (split-others d e beside h)
 
 others_step : (less : Bool) (d : ℕ) (p : Part) (ps : List Part) → nat_lt d p.depth ≡ less
     → (split_at d (forest_of ps)).others ≡ forest_of (after_deeper d ps)
@@ -48,31 +48,31 @@ deeper-bare d p ps h = let not_deeper : nat_lt d p.depth ≡ false = grind (arit
 -- Each tree's first part is deeper than a depth.
 RootsDeep : ℕ → Forest → Type 0
 RootsDeep d Bare = Unit {0}
-RootsDeep d (Tree p below crash_beside) = (d < p.depth) × RootsDeep d crash_beside
+RootsDeep d (Tree p below beside) = (d < p.depth) × RootsDeep d beside
 
-roots_step : (t : Bool) (d : ℕ) (p : Part) (below crash_beside : Forest) (s : ForestSplit) → RootsDeep d (Tree p below crash_beside) → RootsDeep d s.others
-    → RootsDeep d (cond t (split_after p below s) (split Bare (Tree p below crash_beside))).others
+roots_step : (t : Bool) (d : ℕ) (p : Part) (below beside : Forest) (s : ForestSplit) → RootsDeep d (Tree p below beside) → RootsDeep d s.others
+    → RootsDeep d (cond t (split_after p below s) (split Bare (Tree p below beside))).others
 unfolding RootsDeep
-roots_step true d p below crash_beside s h k = k
-roots_step false d p below crash_beside s h k = h
+roots_step true d p below beside s h k = k
+roots_step false d p below beside s h k = h
 
 roots_split : (d e : ℕ) (f : Forest) → RootsDeep d f → RootsDeep d (split_at e f).others
 unfolding RootsDeep
 roots_split d e Bare h = tt
-roots_split d e (Tree p below crash_beside) h = roots_step (nat_lt e p.depth) d p below crash_beside (split_at e crash_beside) h (roots_split d e crash_beside h.1)
+roots_split d e (Tree p below beside) h = roots_step (nat_lt e p.depth) d p below beside (split_at e beside) h (roots_split d e beside h.1)
 
 roots_of : (d : ℕ) (ps : List Part) → All (λ (p : Part). d < p.depth) ps → RootsDeep d (forest_of ps)
 unfolding RootsDeep
 roots_of d [] h = tt
 roots_of d (p ∷ ps) h = (h 0 p (omega arith), roots_split d p.depth (forest_of ps) (roots_of d ps (λ k q within. h (suc k) q (omega (arith, within)))))
 
-whole_step : (d : ℕ) (p : Part) (below crash_beside : Forest) → d < p.depth → (split_at d crash_beside).deeper ≡ crash_beside → (split_at d (Tree p below crash_beside)).deeper ≡ Tree p below crash_beside
-whole_step d p below crash_beside h e = let yes_deeper : nat_lt d p.depth ≡ true = grind (arith, nat_tests, h) in rw yes_deeper (ap (Tree p below) e)
+whole_step : (d : ℕ) (p : Part) (below beside : Forest) → d < p.depth → (split_at d beside).deeper ≡ beside → (split_at d (Tree p below beside)).deeper ≡ Tree p below beside
+whole_step d p below beside h e = let yes_deeper : nat_lt d p.depth ≡ true = grind (arith, nat_tests, h) in rw yes_deeper (ap (Tree p below) e)
 
 whole_split : (d : ℕ) (f : Forest) → RootsDeep d f → (split_at d f).deeper ≡ f
 unfolding RootsDeep
 whole_split d Bare h = refl
-whole_split d (Tree p below crash_beside) h = whole_step d p below crash_beside h.0 (whole_split d crash_beside h.1)
+whole_split d (Tree p below beside) h = whole_step d p below beside h.0 (whole_split d beside h.1)
 
 -- All trees of a mail are deeper than nothing.
 pub all-deeper : (text : List ℕ) → TreesAreTrees → (split_at 0 (forest_of (tree_of text))).deeper ≡ forest_of (tree_of text)

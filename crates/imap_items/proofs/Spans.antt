@@ -72,7 +72,7 @@ one_placed text false p below other h = h
 nth_placed : (text : List ℕ) (n : ℕ) (f : Forest) → IfPlaced text (nth_tree text n f)
 unfolding IfPlaced
 nth_placed text n Bare = tt
-nth_placed text n (Tree p below crash_beside) = one_placed text (eqb n 1) p below (nth_tree text (n - 1) crash_beside) (nth_placed text (n - 1) crash_beside)
+nth_placed text n (Tree p below beside) = one_placed text (eqb n 1) p below (nth_tree text (n - 1) beside) (nth_placed text (n - 1) beside)
 
 of_placed : (text : List ℕ) (n : ℕ) (shape : Shape) (p : Part) (below : Forest) → IfPlaced text (part_of text n shape p below)
 unfolding IfPlaced
@@ -83,7 +83,7 @@ of_placed text n Multipart p below = nth_placed text n below
 message_placed : (text : List ℕ) (n : ℕ) (f : Forest) → IfPlaced text (part_of_message text n f)
 unfolding IfPlaced
 message_placed text n Bare = tt
-message_placed text n (Tree p below crash_beside) = of_placed text n p.shape p below
+message_placed text n (Tree p below beside) = of_placed text n p.shape p below
 
 by_placed : (text : List ℕ) (n : ℕ) (shape : Shape) (f : Forest) → IfPlaced text (part_by text n shape f)
 unfolding IfPlaced

@@ -44,8 +44,8 @@ whole_mail text = mail_with text (forest_of (tree_of text))
 -- The tree with a number, of those beside each other.
 abbrev pub nth_tree : List ℕ → ℕ → Forest → Option PlaceText
 nth_tree text n Bare = None
-nth_tree text n (Tree p below crash_beside) =
-    if n == 1 then Some (place_of text p below) else nth_tree text (n - 1) crash_beside
+nth_tree text n (Tree p below beside) =
+    if n == 1 then Some (place_of text p below) else nth_tree text (n - 1) beside
 
 -- The part of a message with a number: the parts of a multipart are numbered, and any other message
 -- has one part, which is itself.
@@ -57,7 +57,7 @@ part_of text n Multipart p below = nth_tree text n below
 -- The same of the message that is the first tree.
 abbrev pub part_of_message : List ℕ → ℕ → Forest → Option PlaceText
 part_of_message text n Bare = None
-part_of_message text n (Tree p below crash_beside) = part_of text n p.shape p below
+part_of_message text n (Tree p below beside) = part_of text n p.shape p below
 
 -- The part with a number at a place of a shape: of a message it is one of that message's parts, and a
 -- leaf has none.

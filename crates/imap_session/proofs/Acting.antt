@@ -15,7 +15,7 @@ use Rattle.line_door.proofs.Acting.{acts-closing, acts-silent, acts-words}
 use Rattle.line_door.proofs.Courses.{Last-done}
 use Rattle.line_door.proofs.Lifting.{acts-over}
 use Rattle.imap_framer.specs.Framing.{PartFront, LastPart, LiteralPart, ExcessPart, OpenPart, Framing, fresh, with_octets, front_of}
-use Rattle.imap_framer.specs.Doors.{is_answered, only_rest, held_with, state_with, crash_beside, framed_more}
+use Rattle.imap_framer.specs.Doors.{is_answered, only_rest, held_with, state_with, beside, framed_more}
 use Rattle.imap_framer.specs.Feeding.{EndsLast, EndsLiteral, EndsExcess, holding, command_of}
 use Rattle.imap_states.specs.Notices.{bye_memory_line}
 use Rattle.imap_states.specs.Replies.{ImapReply, update_said, end_said, excess_said}
@@ -36,7 +36,7 @@ state-over : (f : Framing) (o : Option ImapState) → held_over {J = ImapClient}
 state-over f None = refl
 state-over f (Some s) = refl
 
-beside-over : (f : Framing) (r : ImapReply) → crash_beside f r ≡ said_over (λ (a : Archive). a) (λ (s : ImapState). (s, f)) r
+beside-over : (f : Framing) (r : ImapReply) → beside f r ≡ said_over (λ (a : Archive). a) (λ (s : ImapState). (s, f)) r
 beside-over f r = λ i. record { next = sym (state-over f r.next) i; words = r.words; streamed = r.streamed; after = r.after }
 
 held-over : (f : Framing) (s : ImapState) (goes : Bool) → held_over {J = ImapClient} (λ (x : ImapState). (x, f)) (held_if goes s) ≡ held_if goes (s, f)
@@ -44,10 +44,10 @@ held-over f s true = refl
 held-over f s false = refl
 
 module _ (a : Archive) (i j : ConnectionState) where
-  pub acts-beside : (f : Framing) (words : Departure → ImapReply) (s : ImapState) (goes : Bool) → Acts words i (held_if goes s) a j → Acts (λ way. crash_beside f (words way)) i (held_if goes (s, f)) a j
+  pub acts-beside : (f : Framing) (words : Departure → ImapReply) (s : ImapState) (goes : Bool) → Acts words i (held_if goes s) a j → Acts (λ way. beside f (words way)) i (held_if goes (s, f)) a j
   acts-beside f words s goes acts =
-      subst (λ (o : Option ImapClient). Acts (λ way. crash_beside f (words way)) i o a j) (held-over f s goes)
-      (acts-over (λ (x : Archive). x) (λ (x : ImapState). (x, f)) words (λ way. crash_beside f (words way)) i (held_if goes s) a j (λ way. beside-over f (words way)) acts)
+      subst (λ (o : Option ImapClient). Acts (λ way. beside f (words way)) i o a j) (held-over f s goes)
+      (acts-over (λ (x : Archive). x) (λ (x : ImapState). (x, f)) words (λ way. beside f (words way)) i (held_if goes s) a j (λ way. beside-over f (words way)) acts)
 
   -- What is said to a front is said to a session with that front.
   pub acts-at : (h : ImapClient) (f : PartFront) (held : Option ImapClient) → front_of (takes_literals h.0) h.1 ≡ f → Acts (at_front a h f) i held a j → Acts (said a h) i held a j
@@ -134,12 +134,12 @@ kept-suits a old piece new i j suits act = subst (λ (x : ImapClient). SuitsClie
 -- The update of a session that idles, and of one that doesn't.
 pub update-told : (a : Archive) (s t : ImapState) (f : Framing) (goes : Bool) (i j : ConnectionState) → idles s ≡ true → Acts (update_said a s) i (held_if goes t) a j → Acts (said_update a (s, f)) i (held_if goes (t, f)) a j
 update-told a s t f goes i j idle acts =
-    acts-words (said_update a (s, f)) (λ way. crash_beside f (update_said a s way)) i (held_if goes (t, f)) a j
-    (λ way. ap (λ (b : Bool). if b then crash_beside f (update_said a s way) else silent a (s, f)) idle) (acts-beside a i j f (update_said a s) t goes acts)
+    acts-words (said_update a (s, f)) (λ way. beside f (update_said a s way)) i (held_if goes (t, f)) a j
+    (λ way. ap (λ (b : Bool). if b then beside f (update_said a s way) else silent a (s, f)) idle) (acts-beside a i j f (update_said a s) t goes acts)
 
 pub update-alone : (a : Archive) (h : ImapClient) (i : ConnectionState) → idles h.0 ≡ false → Acts (said_update a h) i (Some h) a i
 update-alone a h i awake =
-    acts-silent (said_update a h) (silent a h) i i (Some h) a (ap (λ (b : Bool). if b then crash_beside h.1 (update_said a h.0 Plain) else silent a h) awake) refl refl refl refl refl refl
+    acts-silent (said_update a h) (silent a h) i i (Some h) a (ap (λ (b : Bool). if b then beside h.1 (update_said a h.0 Plain) else silent a h) awake) refl refl refl refl refl refl
 
 -- The front that the code found, of what the session is.
 module _ (x : ImapClient) (s : ImapState) (f : Framing) (idle : Bool) (piece : List ℕ) (view : (s, f) ≡ x) (idle_is : idle ≡ idles s) where

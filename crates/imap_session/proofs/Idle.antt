@@ -12,7 +12,7 @@ use Rattle.line_door.specs.Updates.{UpdateDoor}
 use Rattle.line_door.proofs.Cutting.{door_laws}
 use Rattle.line_door.specs.Lines.{first_line}
 use Rattle.imap_framer.specs.Framing.{PartFront, LastPart, LiteralPart, ExcessPart, OpenPart, by_line, Framing, with_octets, room_of, front_of}
-use Rattle.imap_framer.specs.Doors.{is_answered, only_rest, crash_beside, said_at, framed_said, framed_request, framed_more, framed_size}
+use Rattle.imap_framer.specs.Doors.{is_answered, only_rest, beside, said_at, framed_said, framed_request, framed_more, framed_size}
 use Rattle.imap_framer.proofs.Doors.{framed_door}
 use Rattle.imap_states.specs.Notices.{too_long_line}
 use Rattle.imap_states.specs.Replies.{updated, update_said, end_line}
@@ -84,8 +84,8 @@ front-announces h e =
 
 -- What ends idling says first what an update would say.
 ended-told : (a : Archive) (f : Framing) (p q : ImapPlace) (lines first ending : List ℕ) → q ≡ p → lines ≡ []
-    → said_after first (crash_beside f (says a (state_of q None) (lines ++ ending))) ≡ crash_beside f (says a (state_of p None) (first ++ ending))
-ended-told a f p q lines first ending e none = λ i. crash_beside f (says a (state_of (e i) None) (first ++ (none i ++ ending)))
+    → said_after first (beside f (says a (state_of q None) (lines ++ ending))) ≡ beside f (says a (state_of p None) (first ++ ending))
+ended-told a f p q lines first ending e none = λ i. beside f (says a (state_of (e i) None) (first ++ (none i ++ ending)))
 
 excess-told : (a : Archive) (f : Framing) (lines first : List ℕ) (t : Bool) → t ≡ true → lines ≡ []
     → said_after first (closes {H = ImapClient} a ((if t then lines else []) ++ too_long_line)) ≡ closes a ((if t then first else []) ++ too_long_line)
@@ -96,11 +96,11 @@ excess-told a f lines first t e none =
 
 module _ (a : Archive) (s : ImapState) (g : Framing) where
   answer-told : (tag : List ℕ) (f : Framing) (octets : List ℕ) → s.idle ≡ Some tag
-      → said_after (place_lines a s.place) (crash_beside f (answered a (updated a s) octets Plain)) ≡ crash_beside f (answered a s octets Plain)
+      → said_after (place_lines a s.place) (beside f (answered a (updated a s) octets Plain)) ≡ beside f (answered a s octets Plain)
   answer-told tag f octets e =
-      ap (λ (o : Option (List ℕ)). said_after (place_lines a s.place) (crash_beside f (answered_by a (state_of (place_now a s.place) o) o octets Plain))) e
+      ap (λ (o : Option (List ℕ)). said_after (place_lines a s.place) (beside f (answered_by a (state_of (place_now a s.place) o) o octets Plain))) e
       ∙ ended-told a f (place_now a s.place) (place_now a (place_now a s.place)) (place_lines a (place_now a s.place)) (place_lines a s.place) (end_line tag (is_done octets)) (place-twice a s.place) (place-once a s.place)
-      ∙ sym (ap (λ (o : Option (List ℕ)). crash_beside f (answered_by a s o octets Plain)) e)
+      ∙ sym (ap (λ (o : Option (List ℕ)). beside f (answered_by a s o octets Plain)) e)
 
   front-told : (tag : List ℕ) (f : PartFront) → s.idle ≡ Some tag → is_answered f ≡ true → announces f ≡ false
       → said_after (place_lines a s.place) (at_front a (updated a s, g) f Plain) ≡ at_front a (s, g) f Plain
@@ -165,7 +165,7 @@ imap_updates = record {
   told = λ q a h rest none. ap (λ (w : List ℕ). tells a h ++ w) (none-by a h q (idles h.0) refl) ∙ append-nil (tells a h);
 }
 
-rules-by : (a : Archive) (h : ImapClient) (t : Bool) → (if t then crash_beside h.1 (says a (updated a h.0) (place_lines a h.0.place)) else silent a h)
+rules-by : (a : Archive) (h : ImapClient) (t : Bool) → (if t then beside h.1 (says a (updated a h.0) (place_lines a h.0.place)) else silent a h)
     ≡ says a (if t then (updated a h.0, h.1) else h) (if t then place_lines a h.0.place else [])
 rules-by a h true = refl
 rules-by a h false = refl
@@ -188,7 +188,7 @@ told-by a h false e = ap (tells a) (updated-awake a h e) ∙ tells-awake a h e
 pub update_laws : UpdateLaws
 update_laws = record {
   by_rules = update-rules;
-  alone = λ a h way e. ap (λ (t : Bool). if t then crash_beside h.1 (update_said a h.0 way) else silent a h) e;
+  alone = λ a h way e. ap (λ (t : Bool). if t then beside h.1 (update_said a h.0 way) else silent a h) e;
   once = λ a h.
       update-rules a (updated_client a h)
       ∙ ap (λ (x : ImapClient). says a x (tells a (updated_client a h))) (twice-by a h (idles h.0) refl)

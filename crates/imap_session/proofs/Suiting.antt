@@ -7,7 +7,7 @@ use Rattle.line_door.specs.Making.{says}
 use Rattle.line_door.specs.Plain.{silent}
 use Rattle.line_door.proofs.Acting.{stops-closed}
 use Rattle.imap_framer.specs.Framing.{PartFront, LastPart, LiteralPart, ExcessPart, OpenPart, Framing, front_of}
-use Rattle.imap_framer.specs.Doors.{only_rest, held_with, state_with, crash_beside}
+use Rattle.imap_framer.specs.Doors.{only_rest, held_with, state_with, beside}
 use Rattle.imap_states.specs.Notices.{go_line}
 use Rattle.imap_states.specs.Replies.{updated, update_said}
 use Rattle.imap_states.specs.States.{idles, place_lines, SuitsClient}
@@ -53,7 +53,7 @@ module _ (suit : CommandsSuit) (a : Archive) where
   said-suits h after way suits e = front-suits h after (front_of (takes_literals h.0) h.1) way suits e
 
 -- An update leaves what suits.
-update-by : (a : Archive) (h after : ImapClient) (way : Departure) (t : Bool) → SuitsClient a h.0 → (if t then crash_beside h.1 (update_said a h.0 way) else silent a h).next ≡ Some after → SuitsClient a after.0
+update-by : (a : Archive) (h after : ImapClient) (way : Departure) (t : Bool) → SuitsClient a h.0 → (if t then beside h.1 (update_said a h.0 way) else silent a h).next ≡ Some after → SuitsClient a after.0
 update-by a h after way true suits e =
     untagged-leaves a (says a (updated a h.0) (place_lines a h.0.place)) way (says-leaves a (updated a h.0) (place_lines a h.0.place) (now-client a h.0 suits h.0.idle)) after.0 (state-from h.1 (update_said a h.0 way).next after e)
 update-by a h after way false suits e = let same : h ≡ after = cc e in subst (λ (x : ImapClient). SuitsClient a x.0) same suits

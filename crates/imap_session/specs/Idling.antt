@@ -3,7 +3,7 @@ use Rattle.std.specs.Prelude.{ℕ, List, [], if◌then◌else◌}
 use Rattle.arch_model.specs.Archives.{Archive}
 use Rattle.line_door.specs.Acts.{Said, Departure}
 use Rattle.line_door.specs.Plain.{silent}
-use Rattle.imap_framer.specs.Doors.{crash_beside}
+use Rattle.imap_framer.specs.Doors.{beside}
 use Rattle.imap_states.specs.Replies.{updated, update_said}
 use Rattle.imap_states.specs.States.{idles, place_lines}
 use Rattle.imap_session.specs.Door.{ImapClient}
@@ -21,4 +21,4 @@ tells a client = if idles client.0 then place_lines a client.0.place else []
 -- What an update says, in each way. Out of memory closes the session.
 abbrev pub said_update : Archive → ImapClient → Departure → Said ImapClient Archive
 said_update a client way =
-    if idles client.0 then crash_beside client.1 (update_said a client.0 way) else silent a client
+    if idles client.0 then beside client.1 (update_said a client.0 way) else silent a client

@@ -8,7 +8,7 @@ ghost use Rattle.arch_model.specs.Shelves.{ReadsUpTo, ReadsIn};
 ghost use Rattle.line_door.specs.Acts.{Acts, held_if, at_sink};
 ghost use Rattle.line_door.specs.Course.{talk};
 ghost use Rattle.keep_course.specs.Courses.{ShelfRun};
-ghost use Rattle.imap_framer.specs.Doors.{framed_more, only_rest, crash_beside};
+ghost use Rattle.imap_framer.specs.Doors.{framed_more, only_rest, beside};
 ghost use Rattle.imap_framer.specs.Feeding.{IsOpen, holding, command_of};
 ghost use Rattle.imap_framer.specs.Framing.{most_octets, fresh, with_octets};
 ghost use Rattle.imap_states.specs.States.{SuitsClient, idles};

@@ -221,12 +221,12 @@ tree_by Multipart text p below h =
 
 pub forest-nested : (text : List ℕ) (f : Forest) → IsNested (structure text f)
 forest-nested text Bare = Nothing
-forest-nested text (Tree p below crash_beside) =
+forest-nested text (Tree p below beside) =
     let here = tree_by p.shape text p (structure text below) (forest-nested text below) in
-    let all = nested-more (opening_of text p ++ (structure text below ++ closing_of text p)) (structure text crash_beside) here (forest-nested text crash_beside) in
+    let all = nested-more (opening_of text p ++ (structure text below ++ closing_of text p)) (structure text beside) here (forest-nested text beside) in
     subst IsNested
-    (append_assoc (opening_of text p) (structure text below ++ closing_of text p) (structure text crash_beside)
-    ∙ ap (λ t. opening_of text p ++ t) (append_assoc (structure text below) (closing_of text p) (structure text crash_beside))) all
+    (append_assoc (opening_of text p) (structure text below ++ closing_of text p) (structure text beside)
+    ∙ ap (λ t. opening_of text p ++ t) (append_assoc (structure text below) (closing_of text p) (structure text beside))) all
 
 pub balanced : ParenthesesBalance
 unfolding structure_of

@@ -17,15 +17,15 @@ pub parts-within : (text : List ℕ) → TreesAreTrees → All (IsPartOf text) (
 parts-within text law = λ k d h. part-of text _ ((law text).stand k d h)
 
 -- A forest that is split has the same parts.
-split_step : (deeper : Bool) (p : Part) (below crash_beside : Forest) (s : ForestSplit) → flattened s.deeper ++ flattened s.others ≡ flattened crash_beside
-    → flattened (cond deeper (split_after p below s) (split Bare (Tree p below crash_beside))).deeper ++ flattened (cond deeper (split_after p below s) (split Bare (Tree p below crash_beside))).others
-    ≡ p ∷ (flattened below ++ flattened crash_beside)
-split_step true p below crash_beside s h = ap (λ t. p ∷ t) (append_assoc (flattened below) (flattened s.deeper) (flattened s.others) ∙ ap (λ t. flattened below ++ t) h)
-split_step false p below crash_beside s h = refl
+split_step : (deeper : Bool) (p : Part) (below beside : Forest) (s : ForestSplit) → flattened s.deeper ++ flattened s.others ≡ flattened beside
+    → flattened (cond deeper (split_after p below s) (split Bare (Tree p below beside))).deeper ++ flattened (cond deeper (split_after p below s) (split Bare (Tree p below beside))).others
+    ≡ p ∷ (flattened below ++ flattened beside)
+split_step true p below beside s h = ap (λ t. p ∷ t) (append_assoc (flattened below) (flattened s.deeper) (flattened s.others) ∙ ap (λ t. flattened below ++ t) h)
+split_step false p below beside s h = refl
 
 split-flat : (d : ℕ) (f : Forest) → flattened (split_at d f).deeper ++ flattened (split_at d f).others ≡ flattened f
 split-flat d Bare = refl
-split-flat d (Tree p below crash_beside) = split_step (nat_lt d p.depth) p below crash_beside (split_at d crash_beside) (split-flat d crash_beside)
+split-flat d (Tree p below beside) = split_step (nat_lt d p.depth) p below beside (split_at d beside) (split-flat d beside)
 
 -- The parts of trees are those of which they were made.
 pub forest-flat : (parts : List Part) → flattened (forest_of parts) ≡ parts

@@ -23,9 +23,9 @@ split_after p below later = split (Tree p below later.deeper) later.others
 -- The forest, split at a depth: before its first tree whose part isn't deeper.
 abbrev pub split_at : ℕ → Forest → ForestSplit
 split_at depth Bare = split Bare Bare
-split_at depth (Tree p below crash_beside) =
-    if nat_lt depth p.depth then split_after p below (split_at depth crash_beside)
-    else split Bare (Tree p below crash_beside)
+split_at depth (Tree p below beside) =
+    if nat_lt depth p.depth then split_after p below (split_at depth beside)
+    else split Bare (Tree p below beside)
 
 -- A part before trees: the deeper ones at their front are below it.
 abbrev pub planted : Part → ForestSplit → Forest
@@ -39,4 +39,4 @@ forest_of (p ∷ ps) = planted p (split_at p.depth (forest_of ps))
 -- The parts of trees, each before those below it.
 abbrev pub flattened : Forest → List Part
 flattened Bare = []
-flattened (Tree p below crash_beside) = p ∷ (flattened below ++ flattened crash_beside)
+flattened (Tree p below beside) = p ∷ (flattened below ++ flattened beside)

@@ -84,8 +84,8 @@ closing_of text p = closing_by p.shape text p
 -- stands after them.
 abbrev pub structure : List ℕ → Forest → List ℕ
 structure text Bare = []
-structure text (Tree p below crash_beside) =
-    opening_of text p ++ (structure text below ++ (closing_of text p ++ structure text crash_beside))
+structure text (Tree p below beside) =
+    opening_of text p ++ (structure text below ++ (closing_of text p ++ structure text beside))
 
 -- The structure of a mail.
 unfoldable pub structure_of : List ℕ → List ℕ

@@ -45,10 +45,10 @@ first_of : (depth : ℕ) (xs ys : List Part) → StartsAt depth xs → StartsAt 
 first_of depth [] ys p q = q
 first_of depth (x ∷ xs) ys p q = p
 
-crash_beside : (depth : ℕ) (x : Part) (later ys : List Part) → StartsBeside x later → StartsAt depth ys → depth ≤ x.depth → StartsBeside x (later ++ ys)
-crash_beside depth x [] [] b s h = tt
-crash_beside depth x [] (y ∷ ys) b s h = omega arith
-crash_beside depth x (l ∷ ls) ys b s h = b
+beside : (depth : ℕ) (x : Part) (later ys : List Part) → StartsBeside x later → StartsAt depth ys → depth ≤ x.depth → StartsBeside x (later ++ ys)
+beside depth x [] [] b s h = tt
+beside depth x [] (y ∷ ys) b s h = omega arith
+beside depth x (l ∷ ls) ys b s h = b
 
 -- A part that others follow, and then a row of parts beside it.
 followed_one : (text : List ℕ) (depth mid : ℕ) (x : Part) (xs ys : List Part) → IsFollowed text x xs → depth ≤ x.depth → x.body.end ≤ mid
@@ -58,7 +58,7 @@ followed_one text depth mid x xs ys f d e a s = record {
   later = f.later ++ ys;
   split = ap (λ ps. ps ++ ys) f.split ∙ append_assoc f.below f.later ys;
   first = f.first;
-  next = crash_beside depth x f.later ys f.next s d;
+  next = beside depth x f.later ys f.next s d;
   are_below = f.are_below;
   are_after = All-append (IsAfter x) f.later ys f.are_after
       (All-weaker (λ (y : Part). mid ≤ y.header.start) (IsAfter x) (λ y h. omega arith) ys a);

@@ -33,7 +33,7 @@ use Rattle.lmtp_data.specs.Readings.{data_limit}
 use Rattle.lmtp_door.specs.Door as lmtp
 use Rattle.lmtp_door.specs.Door.{Guest, LmtpFront, Commanded, Overlong, DataEnds, GivesTo, NotYet}
 use Rattle.imap_framer.specs.Framing.{PartFront, LastPart, LiteralPart, ExcessPart, OpenPart, front_of}
-use Rattle.imap_framer.specs.Doors.{crash_beside, said_at}
+use Rattle.imap_framer.specs.Doors.{beside, said_at}
 use Rattle.imap_states.specs.Replies.{ImapReply, idle_ended, untagged_ways, update_said}
 use Rattle.imap_states.specs.States.{idles}
 use Rattle.imap_states.specs.declared.state.ImapState.{ImapState}
@@ -113,7 +113,7 @@ imap-after a client way = part-after a client (front_of (takes_literals client.0
 
 -- No update changes the archive.
 
-told-after : (a : Archive) (client : ImapClient) (t : Bool) (way : Departure) → (if t then crash_beside client.1 (update_said a client.0 way) else silent a client).after ≡ a
+told-after : (a : Archive) (client : ImapClient) (t : Bool) (way : Departure) → (if t then beside client.1 (update_said a client.0 way) else silent a client).after ≡ a
 told-after a client true way = untagged-after a _ way refl
 told-after a client false way = refl
 

@@ -7,7 +7,7 @@ use Rattle.line_door.specs.Acts.{ConnectionState, Said, Departure, Plain, Memory
 use Rattle.line_door.specs.Plain.{silent}
 use Rattle.arch_model.specs.Archives.{Archive}
 use Rattle.arch_model.specs.Standing.{LastKnown, standing}
-use Rattle.imap_framer.specs.Doors.{crash_beside}
+use Rattle.imap_framer.specs.Doors.{beside}
 use Rattle.imap_session.specs.Door.{ImapClient}
 use Rattle.imap_session.specs.Idling as idling
 use Rattle.imap_states.specs.Replies.{update_said}
@@ -117,7 +117,7 @@ update-kept c w v update = by (update-cases c w v update)
 door-after : (a : Archive) (client : ImapClient) (way : Departure) → (idling.said_update a client way).after ≡ a
 door-after a client way = by (states.idles client.0) way
   where
-    by : (t : Bool) (by_way : Departure) → (if t then crash_beside client.1 (update_said a client.0 by_way) else silent a client).after ≡ a
+    by : (t : Bool) (by_way : Departure) → (if t then beside client.1 (update_said a client.0 by_way) else silent a client).after ≡ a
     by true Plain = refl
     by true Memory = refl
     by true Disk = refl

@@ -7,7 +7,7 @@ use Rattle.line_door.specs.Plain.{silent}
 use Rattle.line_door.proofs.Acting.{stops-closed, acts-silent}
 use Rattle.arch_model.specs.Archives.{Archive}
 use Rattle.arch_model.specs.Standing.{LastKnown, standing}
-use Rattle.imap_framer.specs.Doors.{crash_beside}
+use Rattle.imap_framer.specs.Doors.{beside}
 use Rattle.imap_session.specs.Door.{ImapClient}
 use Rattle.imap_session.specs.Idling as idling
 use Rattle.imap_session.specs.Laws.{ImapLaws}
@@ -35,7 +35,7 @@ limit-below c less = less
 door-next : (a : Archive) (client : ImapClient) (way : Departure) → ((idling.said_update a client way).next ≡ None) ⊎ ((idling.said_update a client way).next ≡ Some (idling.updated_client a client))
 door-next a client way = by (states.idles client.0) way
   where
-    by : (t : Bool) (by_way : Departure) → ((if t then crash_beside client.1 (update_said a client.0 by_way) else silent a client).next ≡ None) ⊎ ((if t then crash_beside client.1 (update_said a client.0 by_way) else silent a client).next ≡ Some (if t then (updated a client.0, client.1) else client))
+    by : (t : Bool) (by_way : Departure) → ((if t then beside client.1 (update_said a client.0 by_way) else silent a client).next ≡ None) ⊎ ((if t then beside client.1 (update_said a client.0 by_way) else silent a client).next ≡ Some (if t then (updated a client.0, client.1) else client))
     by true Plain = inr refl
     by true Memory = inl refl
     by true Disk = inr refl
