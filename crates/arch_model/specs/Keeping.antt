@@ -78,9 +78,10 @@ module _ {K : Type 0} (g : Keeper K) where
     pub passes : CrashesLeaveOnly g.leaves old new (s ∷ t ∷ [])
 
   -- Nothing changed but what reading changes: the archive, the files and the readiness stay, and a
-  -- crash leaves nothing else.
+  -- crash leaves nothing else. What is held after it was held before.
   pub record OnlyRead (old new : K) : Type 0 where
     pub held : (a : Archive) → g.holds old a → g.holds new a
+    pub back : (a : Archive) → g.holds new a → g.holds old a
     pub rested : (a : Archive) → g.files_are old a → g.files_are new a
     pub same : g.ready new ≡ g.ready old
     pub passes : CrashesLeaveOnly g.leaves old new []

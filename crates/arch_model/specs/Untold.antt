@@ -41,6 +41,7 @@ pub untold-read : {K : Type 0} (ready : K → Bool) (reads faults : K → ℕ) (
     (k m : K) → ready m ≡ ready k → OnlyRead (untold ready reads faults alike) k m
 untold-read ready reads faults alike k m same = record {
   held = λ a no. no;
+  back = λ a no. no;
   rested = λ a no. no;
   same = same;
   passes = λ start may has no. no;

@@ -296,6 +296,13 @@ module _ {D : Type 0} (g : Disk D)
           read.views_are ∙ store.2,
           subst (λ (k : Option Content). WhereTold IsSettled k) (sym same) store.3,
         );
+        back = λ a store. (
+          store.0,
+          subst (λ (k : Option Content). IsStoreWith d.view store.0 a k) same
+              (subst (λ (v : StoreState). IsStoreWith v store.0 a (g.content e.disk)) read.view_is store.1),
+          sym read.views_are ∙ store.2,
+          subst (λ (k : Option Content). WhereTold IsSettled k) same store.3,
+        );
         rested = λ a own. subst (λ (k : Option Content). FilesAreOn a k) (sym same) own;
         same = ap not read.stale_is;
         passes = λ start may has left. (

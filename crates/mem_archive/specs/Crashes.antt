@@ -30,6 +30,7 @@ held-left m a may same has = subst (λ (x : Archive). Contains may (Some x)) sam
 pub same-read : (m n : Archive) → n ≡ m → OnlyRead in_memory m n
 same-read m n same = record {
   held = λ a is. is ∙ sym same;
+  back = λ a is. is ∙ same;
   rested = λ a is. is ∙ sym same;
   same = refl;
   passes = λ start may has left. subst (λ (x : Archive). Contains may (Some x)) (sym same) left;
