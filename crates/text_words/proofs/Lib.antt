@@ -1,2 +1,3 @@
+mod PackedLemmas
 pub mod RunLemmas
 pub mod SetLemmas

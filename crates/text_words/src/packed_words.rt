@@ -1,0 +1,96 @@
+//! Words in order, in one piece of memory.
+//! Allocates.
+ghost use Rattle.std.specs.Prelude.{◌≡◌, ◌<◌, ◌≤◌, [], ◌∷◌, ◌++◌, length, slice_index_or, if◌then◌else◌, is_ok};
+ghost use Rattle.std.specs.List.{between};
+ghost use Rattle.text_words.specs.Packed.{start_at};
+
+use arch_base::NoMemory;
+use std::alloc::Global;
+use std::marker::Model;
+
+/// Words in order, one after the other in one piece of memory. A word may stand there twice.
+///
+/// A word costs its bytes and the place where it ends, and no allocation of its own.
+#[derive(Debug, Drop)]
+pub struct PackedWords {
+    bytes: Vec<u8>,
+    ends: Vec<usize>,
+}
+
+impl Model for PackedWords {
+    ghost use Rattle.std.specs.Prelude.{ℕ, List, length};
+    ghost use Rattle.text_words.specs.Packed.{cut_at, Rises};
+
+    ghost Value = { List (List ℕ) };
+
+    ghost view = { λ w. cut_at w.bytes.items 0 w.ends.items };
+
+    ghost invariant = { λ w. Rises 0 w.ends.items (length w.bytes.items) };
+}
+
+impl PackedWords {
+    /// Returns no words. Allocates nothing.
+    pub fn new(alloc: Global) -> PackedWords
+        ensures { result ≡ [] }
+    {
+        PackedWords {
+            bytes: Vec::new(alloc),
+            ends: Vec::new(alloc),
+        }
+    }
+
+    /// Returns how many words there are.
+    pub fn len(&self) -> usize
+        ensures { result ≡ length self.now }
+    {
+        self.ends.len()
+    }
+
+    /// Returns whether there are no words.
+    pub fn is_empty(&self) -> bool {
+        self.ends.is_empty()
+    }
+
+    /// Returns the word with an index, counted from 0.
+    pub fn get(&self, index: usize) -> &[u8]
+        requires { index < length self.now }
+        ensures { result.now ≡ slice_index_or self.now index [] }
+    {
+        word_at(self.bytes.as_slice(), self.ends.as_slice(), index)
+    }
+
+    /// Appends a word.
+    ///
+    /// `NoMemory` leaves the words unchanged.
+    pub fn push(&mut self, word: &[u8]) -> Result<(), NoMemory>
+        ensures { self.new ≡ (if is_ok result then self.old ++ word.now ∷ [] else self.old) }
+    {
+        self.ends.reserve(1)?;
+        self.bytes.extend_from_slice(word)?;
+        self.ends.push(self.bytes.len())?;
+        Ok(())
+    }
+}
+
+/// Returns the word with an index among those that end at these places.
+fn word_at<'a>(bytes: &'a [u8], ends: &[usize], index: usize) -> &'a [u8]
+    requires known { index < length ends.now }
+    requires rises { start_at ends.now index ≤ slice_index_or ends.now index 0 }
+    requires within { slice_index_or ends.now index 0 ≤ length bytes.now }
+    ensures { result.now ≡ between (start_at ends.now index) (slice_index_or ends.now index 0) bytes.now }
+{
+    let start = start_at(ends, index);
+    let end = ends[index];
+    &bytes[start..end]
+}
+
+/// Returns where the word with an index starts: at 0, or where the word before it ends.
+fn start_at(ends: &[usize], index: usize) -> usize
+    requires { index ≤ length ends.now }
+    ensures { result ≡ start_at ends.now index }
+{
+    if index == 0 {
+        return 0;
+    }
+    ends[index - 1]
+}
