@@ -5,25 +5,15 @@ use Rattle.std.proofs.lemmas.List.{get_or_append_left, length-append, map-append
 use Rattle.std.proofs.lemmas.Slice.Eq.{bytes_eq-Decides}
 use Rattle.std.proofs.Math.Seq.{get_or-append_seam}
 use Rattle.std.specs.Str.{bytes_eq}
-use Rattle.std.specs.BTreeMap.{BTreeMap, get_by, UpdatesBy}
-use Rattle.std.specs.Rc.{rc_slice_items}
-use Rattle.std.specs.declared.alloc.Global.{Global}
-use Rattle.std.specs.declared.rc.RcSlice.{RcSlice}
-use Rattle.word_index.specs.Vocabulary.{word_at, spelled, bytes_of, IsNumberOf, IsNumbering, KeepsWords, AreHeld, AreNumbersOf, IsNumberFor}
-use Rattle.word_index.specs.declared.marks.Marked.{Marked}
-use Rattle.word_index.specs.Marks.{word_in, looks, HasOwnMark}
-use Rattle.word_index.proofs.KeyLemmas.{word_cmp, updated}
+use Rattle.word_index.specs.Vocabulary.{word_at, spelled, IsNumberOf, KeepsWords, AreHeld, AreNumbersOf, IsNumberFor}
 
-abbrev pub items : RcSlice ℕ Global → List ℕ
-items word = rc_slice_items word
-
-one_more : (words : List (List ℕ)) (word : List ℕ) → length (words ++ word ∷ []) ≡ length words + 1
+pub one_more : (words : List (List ℕ)) (word : List ℕ) → length (words ++ word ∷ []) ≡ length words + 1
 one_more words word = length-append words (word ∷ [])
 
-before : (words : List (List ℕ)) (word : List ℕ) (i : ℕ) → i < length words → word_at (words ++ word ∷ []) i ≡ word_at words i
+pub before : (words : List (List ℕ)) (word : List ℕ) (i : ℕ) → i < length words → word_at (words ++ word ∷ []) i ≡ word_at words i
 before words word i h = get_or_append_left words (word ∷ []) [] i h
 
-there : (words : List (List ℕ)) (word : List ℕ) (i : ℕ) → i ≡ length words → word_at (words ++ word ∷ []) i ≡ word
+pub there : (words : List (List ℕ)) (word : List ℕ) (i : ℕ) → i ≡ length words → word_at (words ++ word ∷ []) i ≡ word
 there words word i h = ap (word_at (words ++ word ∷ [])) h ∙ get_or-append_seam words word [] []
 
 -- The words keep their numbers.
@@ -39,43 +29,6 @@ keeps-then a b c one two = record { longer = omega (arith, one.longer, two.longe
 -- A new word's number.
 pub number-of-last : (words : List (List ℕ)) (word : List ℕ) (n : ℕ) → n ≡ length words → IsNumberFor (words ++ word ∷ []) word n
 number-of-last words word n is = record { held = omega (arith, one_more words word); is = there words word n is }
-
--- The number of each word after a new one.
-number-after : (words : List (List ℕ)) (word w : List ℕ) (o : Option ℕ) (n : ℕ) → n ≡ length words → IsNumberOf words word None → IsNumberOf words w o → IsNumberOf (words ++ word ∷ []) w (cond (bytes_eq word w) (Some n) o)
-number-after words word w o n is new old = go (bytes_eq word w) refl
-  where
-    go : (b : Bool) → bytes_eq word w ≡ b → IsNumberOf (words ++ word ∷ []) w (cond b (Some n) o)
-    go true h =
-        let same : word ≡ w = (bytes_eq-Decides word w).0 h in
-        record {
-          found = λ i lt at.
-              elim (cases_lt i (length words)) [
-                | inl less ↦ absurd (let wrong : None ≡ Some i = new.found i less (sym (before words word i less) ∙ at ∙ sym same) in cc)
-                | inr more ↦ ap Some (omega (arith, one_more words word))
-              ];
-          held = λ i named.
-              let at : n ≡ i = cc in
-              (omega (arith, one_more words word), there words word i (sym at ∙ is) ∙ same);
-        }
-    go false h =
-        record {
-          found = λ i lt at.
-              elim (cases_lt i (length words)) [
-                | inl less ↦ old.found i less (sym (before words word i less) ∙ at)
-                | inr more ↦ absurd (let last : i ≡ length words = omega (arith, one_more words word) in let same : bytes_eq word w ≡ true = (bytes_eq-Decides word w).1 (sym (there words word i last) ∙ at) in let wrong : true ≡ false = sym same ∙ h in cc)
-              ];
-          held = λ i named. let was = old.held i named in (omega (arith, one_more words word, was.0), before words word i was.0 ∙ was.1);
-        }
-
-pub numbering-more : (words : List (RcSlice ℕ Global)) (old new : BTreeMap Marked ℕ) (key : Marked) (copied : RcSlice ℕ Global) (n : ℕ) → IsNumbering (bytes_of words) old → IsNumberOf (bytes_of words) (word_in key) None → n ≡ length (bytes_of words) → items copied ≡ word_in key
-    → HasOwnMark key → UpdatesBy word_cmp (word_cmp key) old new (Some n) → IsNumbering (bytes_of (words ++ copied ∷ [])) new
-numbering-more words old new key copied n is none at same marked updates w =
-    let all : bytes_of (words ++ copied ∷ []) ≡ bytes_of words ++ word_in key ∷ [] = map-append items words (copied ∷ []) ∙ ap (λ (x : List ℕ). bytes_of words ++ x ∷ []) same in
-    subst (λ (ws : List (List ℕ)). IsNumberOf ws w (get_by (looks w) new)) (sym all)
-    (subst (IsNumberOf (bytes_of words ++ word_in key ∷ []) w) (sym (updated old new key (Some n) marked updates w)) (number-after (bytes_of words) (word_in key) w (get_by (looks w) old) n at none (is w)))
-
-pub bytes-more : (words : List (RcSlice ℕ Global)) (copied : RcSlice ℕ Global) (word : List ℕ) → items copied ≡ word → bytes_of (words ++ copied ∷ []) ≡ bytes_of words ++ word ∷ []
-bytes-more words copied word same = map-append items words (copied ∷ []) ∙ ap (λ (x : List ℕ). bytes_of words ++ x ∷ []) same
 
 -- Numbers of words, when words are added.
 pub held-then : (old new : List (List ℕ)) (numbers : List ℕ) → KeepsWords old new → AreHeld old numbers → AreHeld new numbers
