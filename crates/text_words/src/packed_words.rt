@@ -20,13 +20,13 @@ pub struct PackedWords {
 
 impl Model for PackedWords {
     ghost use Rattle.std.specs.Prelude.{ℕ, List, length};
-    ghost use Rattle.text_words.specs.Packed.{cut_at, Rises};
+    ghost use Rattle.text_words.specs.Packed.{cut_at, RisesTo};
 
     ghost Value = { List (List ℕ) };
 
     ghost view = { λ w. cut_at w.bytes.items 0 w.ends.items };
 
-    ghost invariant = { λ w. Rises 0 w.ends.items (length w.bytes.items) };
+    ghost invariant = { λ w. RisesTo 0 w.ends.items (length w.bytes.items) };
 }
 
 impl PackedWords {
@@ -76,7 +76,8 @@ impl PackedWords {
     ///
     /// `NoMemory` leaves the words unchanged.
     pub(crate) fn push_lower(&mut self, word: &[u8]) -> Result<(), NoMemory>
-        ensures { self.new ≡ (if is_ok result then self.old ++ str_to_ascii_lowercase word.now ∷ [] else self.old) }
+        ensures { self.new
+            ≡ (if is_ok result then self.old ++ str_to_ascii_lowercase word.now ∷ [] else self.old) }
     {
         self.ends.reserve(1)?;
         push_lower(&mut self.bytes, word)?;

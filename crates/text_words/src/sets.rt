@@ -1,7 +1,6 @@
 //! The words of a list in order, each once.
 //! Allocates.
-ghost use Rattle.std.specs.Prelude.{◌≡◌, [], map, IfOk};
-ghost use Rattle.std.specs.List.Sorted.{IsStrictlySortedBy};
+ghost use Rattle.std.specs.Prelude.{◌≡◌, map, IfOk};
 ghost use Rattle.text_words.specs.Sets.{word_set, lent};
 
 use crate::packed_words::PackedWords;
