@@ -3,7 +3,7 @@ use Rattle.std.proofs.Common.{◌≡◌, ◌+◌, ◌-◌, ◌<◌, ◌≤◌, �
 use Rattle.std.proofs.lemmas.List.{take_all, take-append-le, drop_at}
 use Rattle.std.proofs.lemmas.Slice.{between_is}
 use Rattle.std.specs.List.{between}
-use Rattle.text_words.specs.Packed.{cut_at, Rises, start_at}
+use Rattle.text_words.specs.Packed.{cut_at, RisesTo, start_at}
 
 -- There are as many words as ends.
 pub length-cut : (bytes : List ℕ) (start : ℕ) (ends : List ℕ) → length (cut_at bytes start ends) ≡ length ends
@@ -11,21 +11,21 @@ length-cut bytes start [] = refl
 length-cut bytes start (end ∷ ends) = ap suc (length-cut bytes end ends)
 
 -- The last place isn't before the first one.
-first-le : (start : ℕ) (ends : List ℕ) (last : ℕ) → Rises start ends last → start ≤ last
+first-le : (start : ℕ) (ends : List ℕ) (last : ℕ) → RisesTo start ends last → start ≤ last
 first-le start [] last h = omega (arith, h)
 first-le start (end ∷ ends) last h = let more = first-le end ends last h.1 in let here = h.0 in omega (arith, more, here)
 
 -- A word ends no earlier than it starts.
-start-le : (start : ℕ) (ends : List ℕ) (last i : ℕ) → Rises start ends last → i < length ends → get_or (start ∷ ends) i 0 ≤ get_or ends i 0
+start-le : (start : ℕ) (ends : List ℕ) (last i : ℕ) → RisesTo start ends last → i < length ends → get_or (start ∷ ends) i 0 ≤ get_or ends i 0
 start-le start [] last i h within = absurd (omega arith)
 start-le start (end ∷ ends) last zero h within = h.0
 start-le start (end ∷ ends) last (suc i) h within = start-le end ends last i h.1 (omega arith)
 
-pub starts-within : (ends : List ℕ) (last i : ℕ) → Rises 0 ends last → i < length ends → start_at ends i ≤ get_or ends i 0
+pub starts-within : (ends : List ℕ) (last i : ℕ) → RisesTo 0 ends last → i < length ends → start_at ends i ≤ get_or ends i 0
 starts-within ends last i h within = start-le 0 ends last i h within
 
 -- A word ends within the bytes.
-pub end-le : (start : ℕ) (ends : List ℕ) (last i : ℕ) → Rises start ends last → i < length ends → get_or ends i 0 ≤ last
+pub end-le : (start : ℕ) (ends : List ℕ) (last i : ℕ) → RisesTo start ends last → i < length ends → get_or ends i 0 ≤ last
 end-le start [] last i h within = absurd (omega arith)
 end-le start (end ∷ ends) last zero h within = first-le end ends last h.1
 end-le start (end ∷ ends) last (suc i) h within = end-le end ends last i h.1 (omega arith)
@@ -37,7 +37,7 @@ get-cut bytes start (end ∷ ends) zero within = refl
 get-cut bytes start (end ∷ ends) (suc i) within = get-cut bytes end ends i (omega arith)
 
 -- A place that isn't before the last one goes on.
-pub rises-more : (start : ℕ) (ends : List ℕ) (last more : ℕ) → Rises start ends last → last ≤ more → Rises start (ends ++ more ∷ []) more
+pub rises-more : (start : ℕ) (ends : List ℕ) (last more : ℕ) → RisesTo start ends last → last ≤ more → RisesTo start (ends ++ more ∷ []) more
 rises-more start [] last more h on = ((omega (arith, h)), refl)
 rises-more start (end ∷ ends) last more h on = (h.0, rises-more end ends last more h.1 on)
 
@@ -53,7 +53,7 @@ between-last bytes more start end is_start is_end =
     ap (take (end - start)) (drop_at bytes more start (sym is_start)) ∙ take_all (end - start) more all
 
 -- One word more.
-pub cut-more : (bytes more : List ℕ) (start : ℕ) (ends : List ℕ) (end : ℕ) → Rises start ends (length bytes) → end ≡ length bytes + length more → cut_at (bytes ++ more) start (ends ++ end ∷ []) ≡ cut_at bytes start ends ++ more ∷ []
+pub cut-more : (bytes more : List ℕ) (start : ℕ) (ends : List ℕ) (end : ℕ) → RisesTo start ends (length bytes) → end ≡ length bytes + length more → cut_at (bytes ++ more) start (ends ++ end ∷ []) ≡ cut_at bytes start ends ++ more ∷ []
 cut-more bytes more start [] end h is = ap (λ (w : List ℕ). w ∷ []) (between-last bytes more start end h is)
 cut-more bytes more start (first ∷ ends) end h is =
     ap (λ (w : List ℕ). w ∷ cut_at (bytes ++ more) first (ends ++ end ∷ [])) (between-kept bytes more start first (first-le first ends (length bytes) h.1))

@@ -9,9 +9,9 @@ cut_at bytes start [] = []
 cut_at bytes start (end ∷ ends) = between start end bytes ∷ cut_at bytes end ends
 
 -- The places rise from a first one to a last one.
-abbrev pub Rises : ℕ → List ℕ → ℕ → Type 0
-Rises start [] last = start ≡ last
-Rises start (end ∷ ends) last = (start ≤ end) × Rises end ends last
+abbrev pub RisesTo : ℕ → List ℕ → ℕ → Type 0
+RisesTo start [] last = start ≡ last
+RisesTo start (end ∷ ends) last = (start ≤ end) × RisesTo end ends last
 
 -- Where the word with an index starts: at 0, or where the word before it ends.
 abbrev pub start_at : List ℕ → ℕ → ℕ

@@ -2,10 +2,11 @@
 //! Allocates.
 ghost use Rattle.std.specs.Prelude.{◌≡◌, ◌<◌, ◌≤◌, [], ◌∷◌, ◌++◌, length, slice_index_or, if◌then◌else◌, is_ok};
 ghost use Rattle.std.specs.List.{between};
+ghost use Rattle.std.specs.Str.{str_to_ascii_lowercase};
 ghost use Rattle.text_words.specs.Packed.{start_at};
 
 use arch_base::NoMemory;
-use std::alloc::Global;
+use std::alloc::{AllocError, Global};
 use std::marker::Model;
 
 /// Words in order, one after the other in one piece of memory. A word may stand there twice.
@@ -19,13 +20,13 @@ pub struct PackedWords {
 
 impl Model for PackedWords {
     ghost use Rattle.std.specs.Prelude.{ℕ, List, length};
-    ghost use Rattle.text_words.specs.Packed.{cut_at, Rises};
+    ghost use Rattle.text_words.specs.Packed.{cut_at, RisesTo};
 
     ghost Value = { List (List ℕ) };
 
     ghost view = { λ w. cut_at w.bytes.items 0 w.ends.items };
 
-    ghost invariant = { λ w. Rises 0 w.ends.items (length w.bytes.items) };
+    ghost invariant = { λ w. RisesTo 0 w.ends.items (length w.bytes.items) };
 }
 
 impl PackedWords {
@@ -69,6 +70,39 @@ impl PackedWords {
         self.bytes.extend_from_slice(word)?;
         self.ends.push(self.bytes.len())?;
         Ok(())
+    }
+
+    /// Appends a word in ASCII lower case.
+    ///
+    /// `NoMemory` leaves the words unchanged.
+    pub(crate) fn push_lower(&mut self, word: &[u8]) -> Result<(), NoMemory>
+        ensures { self.new
+            ≡ (if is_ok result then self.old ++ str_to_ascii_lowercase word.now ∷ [] else self.old) }
+    {
+        self.ends.reserve(1)?;
+        push_lower(&mut self.bytes, word)?;
+        self.ends.push(self.bytes.len())?;
+        Ok(())
+    }
+}
+
+/// Appends bytes in ASCII lower case. `AllocError` leaves the list unchanged.
+fn push_lower(into: &mut Vec<u8>, bytes: &[u8]) -> Result<(), AllocError>
+    ensures { into.new.items
+        ≡ (if is_ok result then into.old.items ++ str_to_ascii_lowercase bytes.now else into.old.items) }
+{
+    let start = into.len();
+    into.extend_from_slice(bytes)?;
+    lower(&mut into.as_mut_slice()[start..]);
+    Ok(())
+}
+
+/// Puts bytes into ASCII lower case.
+fn lower(bytes: &mut [u8])
+    ensures { bytes.new ≡ str_to_ascii_lowercase bytes.old }
+{
+    for byte in bytes.iter_mut() {
+        byte.make_ascii_lowercase();
     }
 }
 
