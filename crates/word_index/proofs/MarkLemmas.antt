@@ -145,26 +145,6 @@ numbering-more words word old new befores number n is none at was updates =
         (subst (λ (k : ℕ). IsLastOf (words ++ word ∷ []) (mark_of word) k (last_with old (mark_of word))) (sym last)
         (last-more words word (mark_of word) (length words) (last_with old (mark_of word)) (omega arith) (is.lasts (mark_of word)))))
 
-pub numbering-none : (last : BTreeMap ℕ (Option ℕ)) → ((m : ℕ) → last_with last m ≡ None) → IsNumbering [] last []
-numbering-none last none =
-    record {
-      size = refl;
-      once = λ i j hi hj same. absurd (omega (arith, hi));
-      lasts = λ m.
-          subst (IsLastOf [] m 0) (sym (none m)) (record { held = λ i named. absurd (cc); last = λ i h same. absurd (omega (arith, h)) });
-      befores = λ i h. absurd (omega (arith, h));
-    }
-
--- Tables that say the same of each mark.
-pub numbering-same : (words : List (List ℕ)) (old new : BTreeMap ℕ (Option ℕ)) (befores : List (Option ℕ)) → IsNumbering words old befores → ((m : ℕ) → last_with new m ≡ last_with old m) → IsNumbering words new befores
-numbering-same words old new befores is same =
-    record {
-      size = is.size;
-      once = is.once;
-      lasts = λ m. subst (IsLastOf words m (length words)) (sym (same m)) (is.lasts m);
-      befores = is.befores;
-    }
-
 -- What a call that didn't fail left.
 pub pushed : {T E : Type 0} (r : Result T E) (old new all : List (List ℕ)) → is_err r ≡ false → new ≡ (if is_ok r then all else old) → new ≡ all
 pushed (Ok x) old new all fine is = is

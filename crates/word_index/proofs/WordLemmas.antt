@@ -1,10 +1,7 @@
 -- Words by their numbers, as words are added.
-use Rattle.std.proofs.Common.{◌≡◌, ℕ, ◌+◌, ◌<◌, Bool, true, false, cond, List, [], ◌∷◌, ◌++◌, length, get_or, take, Option, Some, None, Result, Ok, Err, OnOk, is_err, refl, sym, ap, subst, ◌∙◌, inl, inr, arith}
-use Rattle.std.proofs.lemmas.Bool.{cases_lt}
+use Rattle.std.proofs.Common.{◌≡◌, ℕ, ◌+◌, ◌<◌, List, [], ◌∷◌, ◌++◌, length, get_or, take, Some, refl, sym, ap, subst, ◌∙◌, arith}
 use Rattle.std.proofs.lemmas.List.{get_or_append_left, length-append, map-append, take_more}
-use Rattle.std.proofs.lemmas.Slice.Eq.{bytes_eq-Decides}
 use Rattle.std.proofs.Math.Seq.{get_or-append_seam}
-use Rattle.std.specs.Str.{bytes_eq}
 use Rattle.word_index.specs.Vocabulary.{word_at, spelled, IsNumberOf, KeepsWords, AreHeld, AreNumbersOf, IsNumberFor}
 
 pub one_more : (words : List (List ℕ)) (word : List ℕ) → length (words ++ word ∷ []) ≡ length words + 1
@@ -60,15 +57,10 @@ numbers-none words = record { held = tt; are = refl }
 pub number-known : (words : List (List ℕ)) (word text : List ℕ) (n : ℕ) → IsNumberOf words word (Some n) → word ≡ text → IsNumberFor words text n
 number-known words word text n is same = let held = is.held n refl in record { held = held.0; is = held.1 ∙ same }
 
--- What holds of a result that isn't an error.
-pub got : {T E P : Type 0} (r : Result T E) → is_err r ≡ false → OnOk r P → P
-got (Ok x) fine p = p
-got (Err e) fine p = absurd (cc)
-
 -- The next of some words, and its number.
-pub numbers-step : (mid new : List (List ℕ)) (texts : List (List ℕ)) (i : ℕ) (text given : List ℕ) (numbers later : List ℕ) (n : ℕ) → i < length texts → text ≡ get_or texts i text → given ≡ text → KeepsWords mid new
+pub numbers-step : (mid new : List (List ℕ)) (texts : List (List ℕ)) (i : ℕ) (given : List ℕ) (numbers later : List ℕ) (n : ℕ) → i < length texts → given ≡ get_or texts i [] → KeepsWords mid new
     → AreNumbersOf mid (take i texts) numbers → IsNumberFor new given n → later ≡ numbers ++ n ∷ [] → AreNumbersOf new (take (i + 1) texts) later
-numbers-step mid new texts i text given numbers later n h at same keeps are one is =
-    let more : take (i + 1) texts ≡ take i texts ++ given ∷ [] = take_more texts i text h ∙ ap (λ (t : List ℕ). take i texts ++ t ∷ []) (sym (same ∙ at)) in
+numbers-step mid new texts i given numbers later n h same keeps are one is =
+    let more : take (i + 1) texts ≡ take i texts ++ given ∷ [] = take_more texts i [] h ∙ ap (λ (t : List ℕ). take i texts ++ t ∷ []) (sym same) in
     subst (AreNumbersOf new (take (i + 1) texts)) (sym is)
     (subst (λ (ts : List (List ℕ)). AreNumbersOf new ts (numbers ++ n ∷ [])) (sym more) (numbers-more new (take i texts) given numbers n (numbers-then mid new (take i texts) numbers keeps are) one))

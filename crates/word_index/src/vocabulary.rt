@@ -6,7 +6,7 @@ ghost use Rattle.std.specs.BTreeMap.{get_by, is_at};
 ghost use Rattle.word_index.specs.Vocabulary.{last_with};
 
 use crate::marks::mark_of;
-use arch_base::{Bytes, NoMemory};
+use arch_base::NoMemory;
 use std::alloc::Global;
 use std::collections::BTreeMap;
 use std::marker::Model;
@@ -68,13 +68,13 @@ impl Vocabulary {
     /// Returns the numbers of words, those of new ones too, which are added.
     ///
     /// `NoMemory` may leave some of them added.
-    pub fn number_all(&mut self, texts: &[Bytes]) -> Result<Vec<u32>, NoMemory>
+    pub fn number_all(&mut self, texts: &PackedWords) -> Result<Vec<u32>, NoMemory>
         ensures ok { IfOk result (λ numbers. AreNumbersOf self.new texts.now numbers.items) }
         ensures keeps { KeepsWords self.old self.new }
     {
         let mut numbers = Vec::with_capacity(self.alloc, texts.len())?;
-        for text in texts {
-            numbers.push(self.number(text.as_slice())?)?;
+        for index in 0..texts.len() {
+            numbers.push(self.number(texts.get(index))?)?;
         }
         Ok(numbers)
     }

@@ -1,6 +1,5 @@
-use Rattle.std.proofs.Common.{◌≡◌, [], ◌∷◌, ◌++◌, List, length, sym, ◌∙◌, arith}
+use Rattle.std.proofs.Common.{◌≡◌, [], ◌∷◌, ◌++◌, length, sym, ◌∙◌, arith}
 use Rattle.std.proofs.lemmas.Grind.{common_steps}
-use Rattle.word_index.specs.Vocabulary.{IsNumberOf}
 use Rattle.word_index.proofs.MarkLemmas.{numbering-added, pushed}
 use Rattle.word_index.proofs.vocabulary.Vocabulary.add.Goals as goal
 

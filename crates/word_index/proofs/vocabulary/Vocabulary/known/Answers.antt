@@ -1,9 +1,8 @@
-use Rattle.std.proofs.Common.{rules, ◌≡◌, ◌<◌, ℕ, Option, Some, None, Bool, true, false, length, get_or, sym, ap, subst, ◌∙◌, arith}
+use Rattle.std.proofs.Common.{rules, ◌≡◌, ◌<◌, Some, None, true, false, length, get_or, sym, ◌∙◌, arith}
 use Rattle.std.proofs.lemmas.List.{get_or_default}
 use Rattle.std.proofs.lemmas.Slice.Eq.{bytes_eq-Decides}
 use Rattle.std.specs.Str.{bytes_eq}
 use Rattle.word_index.specs.Vocabulary.{LeadsTo, IsLastOf, word_at}
-use Rattle.word_index.specs.Marks.{mark_of}
 use Rattle.word_index.proofs.MarkLemmas.{leads-first, leads-on, leads-nearer}
 use Rattle.word_index.proofs.vocabulary.Vocabulary.known.Goals as goal
 
@@ -26,7 +25,7 @@ loop-at-smaller c =
     let within : i < length words = rw c.self.view_is (c.loop-at.invariant.held i at).0 in
     let counted : length c.self.inside.before.items ≡ length words = c.self.invariant.size in
     let next : c.index-at.result.now ≡ get_or c.self.inside.before.items i None =
-        c.index-at.ensures ∙ get_or_default c.self.inside.before.items i c.index-at.result.now None (omega (arith, counted, within)) in
+    c.index-at.ensures ∙ get_or_default c.self.inside.before.items i c.index-at.result.now None (omega (arith, counted, within)) in
     leads-nearer words i c.loop-at.at c.index-at.result.now at (rw next (c.self.invariant.befores i within))
 
 pub loop-at-preserved : goal.loop-at-preserved
@@ -39,7 +38,7 @@ loop-at-preserved c =
     let within : i < length words = (leads.held i (search rules)).0 in
     let counted : length c.self.inside.before.items ≡ length words = c.self.invariant.size in
     let next : c.index-at.result.now ≡ get_or c.self.inside.before.items i None =
-        c.index-at.ensures ∙ get_or_default c.self.inside.before.items i c.index-at.result.now None (omega (arith, counted, within)) in
+    c.index-at.ensures ∙ get_or_default c.self.inside.before.items i c.index-at.result.now None (omega (arith, counted, within)) in
     let other : bytes_eq (word_at words i) text ≡ false = rw (← c.get.ensures) (sym c.eq.ensures ∙ c.if-eq.false) in
     rw (← c.self.view_is)
     (leads-on words text i c.index-at.result.now leads
