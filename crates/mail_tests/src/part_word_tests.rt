@@ -1,7 +1,7 @@
 //! Mails and their words, worked out by hand, with ample memory.
-use arch_base::Bytes;
 use mime_parts::words;
 use std::alloc::Global;
+use text_words::PackedWords;
 
 /// A mail, and the words of its subject, of its first From field and of its text.
 #[derive(Drop)]
@@ -71,21 +71,25 @@ static MAILS: [MailCase; 9] = [
 ];
 
 /// Returns whether words are these.
-fn are(words: &[Bytes], wanted: &[&[u8]]) -> bool {
-    words.len() == wanted.len()
-        && words
-            .iter()
-            .zip(wanted.iter())
-            .all(|(word, wanted)| word.as_slice() == *wanted)
+fn are(words: &PackedWords, wanted: &[&[u8]]) -> bool {
+    if words.len() != wanted.len() {
+        return false;
+    }
+    for index in 0..words.len() {
+        if words.get(index) != wanted[index] {
+            return false;
+        }
+    }
+    true
 }
 
 /// Returns whether a mail has its words.
 fn has_words(alloc: Global, case: &MailCase) -> bool {
     match words(alloc, case.text) {
         Ok(found) => {
-            are(found.subject.as_slice(), case.subject)
-                && are(found.from.as_slice(), case.from)
-                && are(found.body.as_slice(), case.body)
+            are(&found.subject, case.subject)
+                && are(&found.from, case.from)
+                && are(&found.body, case.body)
         }
         Err(_) => false,
     }

@@ -9,11 +9,11 @@ use crate::decoding::{decode_part, is_shown, read_in};
 use crate::params::param;
 use crate::part::{Part, Shape};
 use crate::visiting::tree;
-use arch_base::{NoMemory, Texts};
+use arch_base::NoMemory;
 use mail_reader::{first_value, flat};
 use mime_words::decode;
 use std::alloc::Global;
-use text_words::{WordLists, push_words, word_set};
+use text_words::{PackedWords, WordLists, push_words, word_set};
 
 /// Returns the words of a mail: those of its subject, of its first From field, and of its text.
 ///
@@ -33,12 +33,12 @@ pub fn words(alloc: Global, text: &[u8]) -> Result<WordLists, NoMemory>
 }
 
 /// Returns the words of the first field with a name, sorted and without repeats.
-fn field_words(alloc: Global, text: &[u8], name: &[u8]) -> Result<Texts, NoMemory>
+fn field_words(alloc: Global, text: &[u8], name: &[u8]) -> Result<PackedWords, NoMemory>
     ensures { IfOk result (λ words. words ≡ set_of (field_words name.now text.now)) }
 {
-    let mut words = Texts::new(alloc);
+    let mut words = PackedWords::new(alloc);
     push_field_words(alloc, text, name, &mut words)?;
-    word_set(alloc, words.as_slice())
+    word_set(alloc, &words)
 }
 
 /// Appends the words of the first field with a name, if the mail has one.
@@ -46,7 +46,7 @@ fn push_field_words(
     alloc: Global,
     text: &[u8],
     name: &[u8],
-    into: &mut Texts,
+    into: &mut PackedWords,
 ) -> Result<(), NoMemory>
     ensures { OnOk result (into.new ≡ into.old ++ field_words name.now text.now) }
 {
@@ -54,26 +54,26 @@ fn push_field_words(
         Some(value) => {
             let value = flat(alloc, value)?;
             let value = decode(alloc, value.as_slice())?;
-            push_words(alloc, value.as_slice(), into)
+            push_words(value.as_slice(), into)
         }
         None => Ok(()),
     }
 }
 
 /// Returns the words of a mail's text, sorted and without repeats.
-fn body_words(alloc: Global, text: &[u8]) -> Result<Texts, NoMemory>
+fn body_words(alloc: Global, text: &[u8]) -> Result<PackedWords, NoMemory>
     ensures { IfOk result (λ words. words ≡ set_of (body_words text.now)) }
 {
     let words = leaf_words_of(alloc, text)?;
-    word_set(alloc, words.as_slice())
+    word_set(alloc, &words)
 }
 
 /// Returns the words of all leaves of a mail that are shown as text, in order.
-fn leaf_words_of(alloc: Global, text: &[u8]) -> Result<Texts, NoMemory>
+fn leaf_words_of(alloc: Global, text: &[u8]) -> Result<PackedWords, NoMemory>
     ensures { IfOk result (λ words. words ≡ body_words text.now) }
 {
     let parts = tree(alloc, text)?;
-    let mut words = Texts::new(alloc);
+    let mut words = PackedWords::new(alloc);
     for part in parts.as_slice() {
         push_part_words(alloc, text, part, &mut words)?;
     }
@@ -85,7 +85,7 @@ fn push_part_words(
     alloc: Global,
     text: &[u8],
     part: &Part,
-    into: &mut Texts,
+    into: &mut PackedWords,
 ) -> Result<(), NoMemory>
     requires { IsPartOf text.now part.now }
     ensures { OnOk result (into.new ≡ into.old ++ part_words text.now part.now) }
@@ -104,14 +104,14 @@ fn push_leaf_words(
     alloc: Global,
     part: &Part,
     bytes: &[u8],
-    into: &mut Texts,
+    into: &mut PackedWords,
 ) -> Result<(), NoMemory>
     ensures { OnOk result (into.new ≡ into.old ++ leaf_words part.now bytes.now) }
 {
     if is_shown(part) {
         let charset = param(part.params.as_slice(), b"charset");
         let text = read_in(alloc, charset, bytes)?;
-        push_words(alloc, text.as_bytes(), into)
+        push_words(text.as_bytes(), into)
     } else {
         Ok(())
     }

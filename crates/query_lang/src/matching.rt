@@ -6,7 +6,7 @@ ghost use Rattle.query_lang.specs.Matching.{has_word, has_in, is_between, in_ran
 
 use crate::query::Query;
 use arch_base::Bytes;
-use text_words::WordLists;
+use text_words::{PackedWords, WordLists};
 
 /// Where a word is asked.
 #[derive(Debug, Clone, Copy, PartialEq, Eq)]
@@ -70,9 +70,7 @@ fn has_all(field: Field, words: &WordLists, asked: &[Bytes]) -> bool
 fn has_in(field: Field, words: &WordLists, word: &[u8]) -> bool
     ensures { result ≡ has_in field words.now word.now }
 {
-    let subject = words.subject.as_slice();
-    let from = words.from.as_slice();
-    let body = words.body.as_slice();
+    let (subject, from, body) = (&words.subject, &words.from, &words.body);
     match field {
         Field::Any => has_word(subject, word) || has_word(from, word) || has_word(body, word),
         Field::Subject => has_word(subject, word),
@@ -81,9 +79,14 @@ fn has_in(field: Field, words: &WordLists, word: &[u8]) -> bool
     }
 }
 
-/// Returns whether a word is one of a list.
-fn has_word(words: &[Bytes], word: &[u8]) -> bool
+/// Returns whether a word is one of some words.
+fn has_word(words: &PackedWords, word: &[u8]) -> bool
     ensures { result ≡ has_word words.now word.now }
 {
-    words.iter().any(|held| held.as_slice() == word)
+    for index in 0..words.len() {
+        if words.get(index) == word {
+            return true;
+        }
+    }
+    false
 }

@@ -13,9 +13,9 @@ ghost use Rattle.query_lang.specs.Asking.{AddsTerm, AsksDays};
 use crate::dates::range_of;
 use crate::query::{Query, QueryRefusal};
 use crate::terms::{after, first_term};
-use arch_base::{Numbers, Texts};
+use arch_base::{Bytes, NoMemory, Numbers, Texts};
 use std::alloc::Global;
-use text_words::push_words;
+use text_words::{PackedWords, push_words};
 
 /// Reads a query. Any bytes are one, unless a term that begins with `d:` is no range of days.
 ///
@@ -60,7 +60,20 @@ fn ask_words(alloc: Global, asked: &mut Texts, text: &[u8]) -> Result<(), QueryR
     ensures ok { OnOk result (asked.new ≡ asked.old ++ words_of text.now) }
     ensures err { IfErr result (λ refusal. refusal ≡ QueryRefusal.NoMemory) }
 {
-    push_words(alloc, text, asked)?;
+    let mut words = PackedWords::new(alloc);
+    push_words(text, &mut words)?;
+    push_copies(alloc, &words, asked)?;
+    Ok(())
+}
+
+/// Appends a copy of each word to words that are asked.
+fn push_copies(alloc: Global, words: &PackedWords, asked: &mut Texts) -> Result<(), NoMemory>
+    ensures { OnOk result (asked.new ≡ asked.old ++ words.now) }
+{
+    for index in 0..words.len() {
+        let bytes = Vec::from_slice(alloc, words.get(index))?;
+        asked.push(Bytes::from_vec(bytes))?;
+    }
     Ok(())
 }
 

@@ -1,2 +1,4 @@
+mod AppendLemmas
+mod PackedLemmas
 pub mod RunLemmas
 pub mod SetLemmas

@@ -2,7 +2,7 @@
 use Rattle.std.specs.Prelude.{ℕ, List, [], ◌∷◌}
 use Rattle.std.specs.BTreeSet.{insert_key}
 use Rattle.std.specs.Cmp.Lexicographic.{slice_cmp}
-use Rattle.std.specs.Global.{Vec}
+use Rattle.std.specs.Borrow.{Bor}
 use Rattle.std.specs.Ordering.{nat_cmp}
 use Rattle.std.specs.declared.cmp.Ordering.{Ordering}
 
@@ -19,6 +19,6 @@ with_words set (word ∷ words) = with_words (insert_key word_cmp set word) word
 abbrev pub word_set : List (List ℕ) → List (List ℕ)
 word_set words = with_words [] words
 
--- The bytes of a word that is kept.
-abbrev pub bytes_of : Vec ℕ → List ℕ
-bytes_of word = word.items
+-- The bytes of a word that is lent.
+abbrev pub lent : Bor (List ℕ) → List ℕ
+lent word = word.now

@@ -1,41 +1,42 @@
 //! The words of a list in order, each once.
 //! Allocates.
 ghost use Rattle.std.specs.Prelude.{◌≡◌, map, IfOk};
-ghost use Rattle.text_words.specs.Sets.{word_set, bytes_of};
+ghost use Rattle.text_words.specs.Sets.{word_set, lent};
 
-use arch_base::{Bytes, NoMemory, Texts};
+use crate::packed_words::PackedWords;
+use arch_base::NoMemory;
 use std::alloc::Global;
-use std::collections::BTreeSet;
 
-/// Returns the words of a list, sorted by their bytes and without repeats.
+/// Returns some words, sorted by their bytes and without repeats.
 ///
 /// `NoMemory` if an allocation fails.
-pub fn word_set(alloc: Global, words: &[Bytes]) -> Result<Texts, NoMemory>
+pub fn word_set(alloc: Global, words: &PackedWords) -> Result<PackedWords, NoMemory>
     ensures { IfOk result (λ set. set ≡ word_set words.now) }
 {
-    listed(alloc, set_of(alloc, words)?)
+    let mut found = slices(alloc, words)?;
+    found.sort_unstable();
+    found.dedup();
+    packed(alloc, found.as_slice())
 }
 
-/// Returns the set of the words of a list.
-fn set_of(alloc: Global, words: &[Bytes]) -> Result<BTreeSet<Vec<u8>>, NoMemory>
-    ensures { IfOk result (λ set. map bytes_of set.keys ≡ word_set words.now) }
+/// Returns each word where it stands.
+fn slices(alloc: Global, words: &PackedWords) -> Result<Vec<&[u8]>, NoMemory>
+    ensures { IfOk result (λ found. map lent found.items ≡ words.now) }
 {
-    let mut set = BTreeSet::new(alloc);
+    let mut found = Vec::with_capacity(alloc, words.len())?;
+    for index in 0..words.len() {
+        found.push(words.get(index))?;
+    }
+    Ok(found)
+}
+
+/// Returns a copy of some words.
+fn packed(alloc: Global, words: &[&[u8]]) -> Result<PackedWords, NoMemory>
+    ensures { IfOk result (λ made. made ≡ map lent words.now) }
+{
+    let mut made = PackedWords::new(alloc);
     for word in words {
-        let bytes = Vec::from_slice(alloc, word.as_slice())?;
-        set.insert(bytes)?;
+        made.push(word)?;
     }
-    Ok(set)
-}
-
-/// Returns the words of a set, in order.
-fn listed(alloc: Global, set: BTreeSet<Vec<u8>>) -> Result<Texts, NoMemory>
-    ensures { IfOk result (λ list. list ≡ map bytes_of set.keys) }
-{
-    let mut set = set;
-    let mut list = Texts::new(alloc);
-    while let Some(word) = set.pop_first() {
-        list.push(Bytes::from_vec(word))?;
-    }
-    Ok(list)
+    Ok(made)
 }

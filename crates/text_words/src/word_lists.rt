@@ -1,14 +1,14 @@
 //! The words of a message, by field.
 //! Pure.
-use arch_base::Texts;
+use crate::packed_words::PackedWords;
 
 /// The words of a message.
 #[derive(Debug, Drop)]
 pub struct WordLists {
     /// The words of its subject.
-    pub subject: Texts,
+    pub subject: PackedWords,
     /// The words of its first From field.
-    pub from: Texts,
+    pub from: PackedWords,
     /// The words of its text leaves.
-    pub body: Texts,
+    pub body: PackedWords,
 }

@@ -1,30 +1,30 @@
 //! Cuts a text into words.
 //! Allocates.
-ghost use Rattle.std.specs.Prelude.{◌≡◌, ◌<◌, ◌≤◌, ◌++◌, [], ◌∷◌, length, take, IfOk, IfSome, OnOk, MatchOption};
+ghost use Rattle.std.specs.Prelude.{◌≡◌, ◌<◌, ◌≤◌, ◌++◌, [], ◌∷◌, length, take, IfSome, OnOk, OnErr, MatchOption};
 ghost use Rattle.std.specs.List.{prefix_len};
-ghost use Rattle.std.specs.Str.{str_to_ascii_lowercase};
 ghost use Rattle.text_words.specs.Runs.{fails, runs};
-ghost use Rattle.text_words.specs.Words.{is_word_byte, word_of, words_of};
+ghost use Rattle.text_words.specs.Words.{is_word_byte, words_of, AppendsSome};
 
-use arch_base::{Bytes, NoMemory, Texts};
-use std::alloc::{AllocError, Global};
+use crate::packed_words::PackedWords;
+use arch_base::NoMemory;
 
 /// The greatest length of a word, in bytes.
 pub const MAX_WORD_LEN: usize = 64;
 
-/// Appends the words of a text to a list, in order.
+/// Appends the words of a text to others, in order.
 ///
 /// Words are the longest runs of ASCII letters, digits and bytes from 128 up, in ASCII lower case.
 /// Of a run of more than 64 bytes the first 64 are the word, and the rest is dropped. A word that
 /// stands in the text twice is appended twice.
 ///
-/// `NoMemory` may leave some of the words appended.
-pub fn push_words(alloc: Global, text: &[u8], into: &mut Texts) -> Result<(), NoMemory>
-    ensures { OnOk result (into.new ≡ into.old ++ words_of text.now) }
+/// `NoMemory` leaves some of the first of them appended.
+pub fn push_words(text: &[u8], into: &mut PackedWords) -> Result<(), NoMemory>
+    ensures ok { OnOk result (into.new ≡ into.old ++ words_of text.now) }
+    ensures err { OnErr result (AppendsSome into.old (words_of text.now) into.new) }
 {
     let mut rest = text;
     while let Some((run, others)) = first_run(rest) {
-        into.push(word_of(alloc, run)?)?;
+        into.push_lower(front(run))?;
         rest = others;
     }
     Ok(())
@@ -67,14 +67,6 @@ fn is_word_byte(byte: u8) -> bool
     byte.is_ascii_alphanumeric() || byte >= 128
 }
 
-/// Returns the word of a run of such bytes.
-fn word_of(alloc: Global, run: &[u8]) -> Result<Bytes, NoMemory>
-    ensures { IfOk result (λ word. word ≡ word_of run.now) }
-{
-    let word = lower_case(alloc, front(run))?;
-    Ok(Bytes::from_vec(word))
-}
-
 /// Returns the first bytes of a run, as many as a word may have.
 fn front(run: &[u8]) -> &[u8]
     ensures { result.now ≡ take 64 run.now }
@@ -83,13 +75,4 @@ fn front(run: &[u8]) -> &[u8]
         return run;
     }
     run.split_at(MAX_WORD_LEN).0
-}
-
-/// Returns a copy of a text in ASCII lower case.
-fn lower_case(alloc: Global, text: &[u8]) -> Result<Vec<u8>, AllocError>
-    ensures { IfOk result (λ made. made.items ≡ str_to_ascii_lowercase text.now) }
-{
-    text.iter()
-        .map(|byte| byte.to_ascii_lowercase())
-        .collect(alloc)
 }

@@ -1,6 +1,6 @@
 pub mod Bools
-pub mod KeyLemmas
 pub mod WordLemmas
+pub mod MarkLemmas
 pub mod HeldLemmas
 pub mod PostingLemmas
 pub mod RowLemmas

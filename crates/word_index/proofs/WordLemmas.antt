@@ -1,29 +1,16 @@
 -- Words by their numbers, as words are added.
-use Rattle.std.proofs.Common.{◌≡◌, ℕ, ◌+◌, ◌<◌, Bool, true, false, cond, List, [], ◌∷◌, ◌++◌, length, get_or, take, Option, Some, None, Result, Ok, Err, OnOk, is_err, refl, sym, ap, subst, ◌∙◌, inl, inr, arith}
-use Rattle.std.proofs.lemmas.Bool.{cases_lt}
+use Rattle.std.proofs.Common.{◌≡◌, ℕ, ◌+◌, ◌<◌, List, [], ◌∷◌, ◌++◌, length, get_or, take, Some, refl, sym, ap, subst, ◌∙◌, arith}
 use Rattle.std.proofs.lemmas.List.{get_or_append_left, length-append, map-append, take_more}
-use Rattle.std.proofs.lemmas.Slice.Eq.{bytes_eq-Decides}
 use Rattle.std.proofs.Math.Seq.{get_or-append_seam}
-use Rattle.std.specs.Str.{bytes_eq}
-use Rattle.std.specs.BTreeMap.{BTreeMap, get_by, UpdatesBy}
-use Rattle.std.specs.Rc.{rc_slice_items}
-use Rattle.std.specs.declared.alloc.Global.{Global}
-use Rattle.std.specs.declared.rc.RcSlice.{RcSlice}
-use Rattle.word_index.specs.Vocabulary.{word_at, spelled, bytes_of, IsNumberOf, IsNumbering, KeepsWords, AreHeld, AreNumbersOf, IsNumberFor}
-use Rattle.word_index.specs.declared.marks.Marked.{Marked}
-use Rattle.word_index.specs.Marks.{word_in, looks, HasOwnMark}
-use Rattle.word_index.proofs.KeyLemmas.{word_cmp, updated}
+use Rattle.word_index.specs.Vocabulary.{word_at, spelled, IsNumberOf, KeepsWords, AreHeld, AreNumbersOf, IsNumberFor}
 
-abbrev pub items : RcSlice ℕ Global → List ℕ
-items word = rc_slice_items word
-
-one_more : (words : List (List ℕ)) (word : List ℕ) → length (words ++ word ∷ []) ≡ length words + 1
+pub one_more : (words : List (List ℕ)) (word : List ℕ) → length (words ++ word ∷ []) ≡ length words + 1
 one_more words word = length-append words (word ∷ [])
 
-before : (words : List (List ℕ)) (word : List ℕ) (i : ℕ) → i < length words → word_at (words ++ word ∷ []) i ≡ word_at words i
+pub before : (words : List (List ℕ)) (word : List ℕ) (i : ℕ) → i < length words → word_at (words ++ word ∷ []) i ≡ word_at words i
 before words word i h = get_or_append_left words (word ∷ []) [] i h
 
-there : (words : List (List ℕ)) (word : List ℕ) (i : ℕ) → i ≡ length words → word_at (words ++ word ∷ []) i ≡ word
+pub there : (words : List (List ℕ)) (word : List ℕ) (i : ℕ) → i ≡ length words → word_at (words ++ word ∷ []) i ≡ word
 there words word i h = ap (word_at (words ++ word ∷ [])) h ∙ get_or-append_seam words word [] []
 
 -- The words keep their numbers.
@@ -39,43 +26,6 @@ keeps-then a b c one two = record { longer = omega (arith, one.longer, two.longe
 -- A new word's number.
 pub number-of-last : (words : List (List ℕ)) (word : List ℕ) (n : ℕ) → n ≡ length words → IsNumberFor (words ++ word ∷ []) word n
 number-of-last words word n is = record { held = omega (arith, one_more words word); is = there words word n is }
-
--- The number of each word after a new one.
-number-after : (words : List (List ℕ)) (word w : List ℕ) (o : Option ℕ) (n : ℕ) → n ≡ length words → IsNumberOf words word None → IsNumberOf words w o → IsNumberOf (words ++ word ∷ []) w (cond (bytes_eq word w) (Some n) o)
-number-after words word w o n is new old = go (bytes_eq word w) refl
-  where
-    go : (b : Bool) → bytes_eq word w ≡ b → IsNumberOf (words ++ word ∷ []) w (cond b (Some n) o)
-    go true h =
-        let same : word ≡ w = (bytes_eq-Decides word w).0 h in
-        record {
-          found = λ i lt at.
-              elim (cases_lt i (length words)) [
-                | inl less ↦ absurd (let wrong : None ≡ Some i = new.found i less (sym (before words word i less) ∙ at ∙ sym same) in cc)
-                | inr more ↦ ap Some (omega (arith, one_more words word))
-              ];
-          held = λ i named.
-              let at : n ≡ i = cc in
-              (omega (arith, one_more words word), there words word i (sym at ∙ is) ∙ same);
-        }
-    go false h =
-        record {
-          found = λ i lt at.
-              elim (cases_lt i (length words)) [
-                | inl less ↦ old.found i less (sym (before words word i less) ∙ at)
-                | inr more ↦ absurd (let last : i ≡ length words = omega (arith, one_more words word) in let same : bytes_eq word w ≡ true = (bytes_eq-Decides word w).1 (sym (there words word i last) ∙ at) in let wrong : true ≡ false = sym same ∙ h in cc)
-              ];
-          held = λ i named. let was = old.held i named in (omega (arith, one_more words word, was.0), before words word i was.0 ∙ was.1);
-        }
-
-pub numbering-more : (words : List (RcSlice ℕ Global)) (old new : BTreeMap Marked ℕ) (key : Marked) (copied : RcSlice ℕ Global) (n : ℕ) → IsNumbering (bytes_of words) old → IsNumberOf (bytes_of words) (word_in key) None → n ≡ length (bytes_of words) → items copied ≡ word_in key
-    → HasOwnMark key → UpdatesBy word_cmp (word_cmp key) old new (Some n) → IsNumbering (bytes_of (words ++ copied ∷ [])) new
-numbering-more words old new key copied n is none at same marked updates w =
-    let all : bytes_of (words ++ copied ∷ []) ≡ bytes_of words ++ word_in key ∷ [] = map-append items words (copied ∷ []) ∙ ap (λ (x : List ℕ). bytes_of words ++ x ∷ []) same in
-    subst (λ (ws : List (List ℕ)). IsNumberOf ws w (get_by (looks w) new)) (sym all)
-    (subst (IsNumberOf (bytes_of words ++ word_in key ∷ []) w) (sym (updated old new key (Some n) marked updates w)) (number-after (bytes_of words) (word_in key) w (get_by (looks w) old) n at none (is w)))
-
-pub bytes-more : (words : List (RcSlice ℕ Global)) (copied : RcSlice ℕ Global) (word : List ℕ) → items copied ≡ word → bytes_of (words ++ copied ∷ []) ≡ bytes_of words ++ word ∷ []
-bytes-more words copied word same = map-append items words (copied ∷ []) ∙ ap (λ (x : List ℕ). bytes_of words ++ x ∷ []) same
 
 -- Numbers of words, when words are added.
 pub held-then : (old new : List (List ℕ)) (numbers : List ℕ) → KeepsWords old new → AreHeld old numbers → AreHeld new numbers
@@ -107,15 +57,10 @@ numbers-none words = record { held = tt; are = refl }
 pub number-known : (words : List (List ℕ)) (word text : List ℕ) (n : ℕ) → IsNumberOf words word (Some n) → word ≡ text → IsNumberFor words text n
 number-known words word text n is same = let held = is.held n refl in record { held = held.0; is = held.1 ∙ same }
 
--- What holds of a result that isn't an error.
-pub got : {T E P : Type 0} (r : Result T E) → is_err r ≡ false → OnOk r P → P
-got (Ok x) fine p = p
-got (Err e) fine p = absurd (cc)
-
 -- The next of some words, and its number.
-pub numbers-step : (mid new : List (List ℕ)) (texts : List (List ℕ)) (i : ℕ) (text given : List ℕ) (numbers later : List ℕ) (n : ℕ) → i < length texts → text ≡ get_or texts i text → given ≡ text → KeepsWords mid new
+pub numbers-step : (mid new : List (List ℕ)) (texts : List (List ℕ)) (i : ℕ) (given : List ℕ) (numbers later : List ℕ) (n : ℕ) → i < length texts → given ≡ get_or texts i [] → KeepsWords mid new
     → AreNumbersOf mid (take i texts) numbers → IsNumberFor new given n → later ≡ numbers ++ n ∷ [] → AreNumbersOf new (take (i + 1) texts) later
-numbers-step mid new texts i text given numbers later n h at same keeps are one is =
-    let more : take (i + 1) texts ≡ take i texts ++ given ∷ [] = take_more texts i text h ∙ ap (λ (t : List ℕ). take i texts ++ t ∷ []) (sym (same ∙ at)) in
+numbers-step mid new texts i given numbers later n h same keeps are one is =
+    let more : take (i + 1) texts ≡ take i texts ++ given ∷ [] = take_more texts i [] h ∙ ap (λ (t : List ℕ). take i texts ++ t ∷ []) (sym same) in
     subst (AreNumbersOf new (take (i + 1) texts)) (sym is)
     (subst (λ (ts : List (List ℕ)). AreNumbersOf new ts (numbers ++ n ∷ [])) (sym more) (numbers-more new (take i texts) given numbers n (numbers-then mid new (take i texts) numbers keeps are) one))

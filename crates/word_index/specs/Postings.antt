@@ -1,32 +1,27 @@
 -- The numbers of the rows that have a word in one field.
-use Rattle.std.specs.Prelude.{◌≡◌, ◌<◌, ◌≤◌, ◌-◌, ℕ, Bool, false, not, ◌&&◌, ◌||◌, List, length, slice_index_or, Option, Some, None, Result, MatchResult}
+use Rattle.std.specs.Prelude.{◌≡◌, ◌<◌, ◌≤◌, ◌-◌, ℕ, Bool, false, not, ◌&&◌, ◌||◌, List, [], length, slice_index_or, Result, MatchResult}
 use Rattle.std.specs.List.{list_any}
 use Rattle.std.specs.List.Sorted.{IsStrictlySortedBy}
 use Rattle.std.specs.Ordering.{nat_cmp}
-use Rattle.std.specs.BTreeMap.{BTreeMap, get_by, is_at}
+use Rattle.std.specs.BTreeMap.{is_at}
 use Rattle.std.specs.BTreeSet.{BTreeSet, contains}
 use Rattle.word_index.specs.Kept.{has_number}
 
--- Sets of numbers of rows, by the numbers of words.
+-- Sets of numbers of rows, each at the number of a word.
 abbrev pub Postings : Type 0
-Postings = BTreeMap ℕ (BTreeSet ℕ)
+Postings = List (BTreeSet ℕ)
 
--- There is a set, and it has the number.
-abbrev pub is_in : Option (BTreeSet ℕ) → ℕ → Bool
-is_in None n = false
-is_in (Some numbers) n = contains nat_cmp numbers n
+-- A set without numbers.
+abbrev pub no_numbers : BTreeSet ℕ
+no_numbers = record { keys = [] }
 
--- The numbers of a word.
-abbrev pub numbers_of : Postings → ℕ → Option (BTreeSet ℕ)
-numbers_of postings word = get_by (nat_cmp word) postings
+-- The numbers of a word, of which one without a set has none.
+abbrev pub numbers_of : Postings → ℕ → BTreeSet ℕ
+numbers_of postings word = slice_index_or postings word no_numbers
 
 -- The number is one of a word's.
 abbrev pub posted : Postings → ℕ → ℕ → Bool
-posted postings word n = is_in (numbers_of postings word) n
-
--- The word has no numbers.
-abbrev pub WordHasNone : Postings → ℕ → Type 0
-WordHasNone postings word = (n : ℕ) → posted postings word n ≡ false
+posted postings word n = contains nat_cmp (numbers_of postings word) n
 
 -- The list rises, and has just the numbers that pass a test.
 pub record IsListOf (list : List ℕ) (test : ℕ → Bool) : Type 0 where

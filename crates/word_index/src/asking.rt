@@ -46,7 +46,7 @@ fn push_asked(
         && list_all (has_in field (shown held.now row).words) words.now)) }
 {
     for word in words {
-        let word = held.number_of(word.as_slice())?;
+        let word = held.number_of(word.as_slice());
         into.push(Asked { field, word })?;
     }
     Ok(())

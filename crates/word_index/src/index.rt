@@ -63,7 +63,7 @@ impl WordIndex {
             (record { words = words.now; day = day })) }
         ensures err { OnErr result (self.new ≡ self.old) }
     {
-        self.tables.add(self.alloc, n, words, day)
+        self.tables.add(n, words, day)
     }
 
     /// Removes a row, and returns whether it was there.

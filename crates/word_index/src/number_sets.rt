@@ -77,13 +77,23 @@ impl NumberSet {
         }
     }
 
-    /// Removes a number.
+    /// Removes a number. A set without numbers holds no memory.
     pub fn remove(&mut self, n: u32)
         ensures { (m : ℕ) → contains nat_cmp self.new m
             ≡ cond (is_at (nat_cmp n) m) false (contains nat_cmp self.old m) }
     {
         if let Ok(place) = self.place(n) {
             self.numbers.remove(place);
+            self.give_back();
+        }
+    }
+
+    /// Gives the memory of an empty set back.
+    fn give_back(&mut self)
+        ensures { self.new.keys ≡ self.old.keys }
+    {
+        if self.numbers.is_empty() {
+            self.numbers.shrink_to_fit();
         }
     }
 

@@ -12,7 +12,7 @@ ghost use Rattle.word_index.specs.Asked.{listed_in, is_listed, matches_asked};
 ghost use Rattle.word_index.specs.Days.{dated_cmp, is_within, numbers_between};
 
 use crate::asking::Asked;
-use crate::postings::{Postings, count, has, numbers};
+use crate::postings::Postings;
 use crate::rows::Dated;
 use crate::tables::Tables;
 use arch_base::NoMemory;
@@ -36,13 +36,11 @@ fn is_listed_in(tables: &Tables, field: Field, word: u32, n: u32) -> bool
 {
     match field {
         Field::Any => {
-            has(&tables.subject, word, n)
-                || has(&tables.from, word, n)
-                || has(&tables.body, word, n)
+            tables.subject.has(word, n) || tables.from.has(word, n) || tables.body.has(word, n)
         }
-        Field::Subject => has(&tables.subject, word, n),
-        Field::From => has(&tables.from, word, n),
-        Field::Body => has(&tables.body, word, n),
+        Field::Subject => tables.subject.has(word, n),
+        Field::From => tables.from.has(word, n),
+        Field::Body => tables.body.has(word, n),
     }
 }
 
@@ -70,9 +68,9 @@ pub fn count_asked(tables: &Tables, asked: &Asked) -> usize {
     let Some(word) = asked.word else {
         return 0;
     };
-    let subject = count(&tables.subject, word);
-    let from = count(&tables.from, word);
-    let body = count(&tables.body, word);
+    let subject = tables.subject.count(word);
+    let from = tables.from.count(word);
+    let body = tables.body.count(word);
     match asked.field {
         Field::Any => subject.saturating_add(from).saturating_add(body),
         Field::Subject => subject,
@@ -160,43 +158,38 @@ pub fn numbers_with(alloc: Global, tables: &Tables, asked: &Asked) -> Result<Vec
     ensures { IfOk result (λ found. IsListOf found.items (is_listed tables.now asked.now)) }
 {
     match asked.word {
-        Some(word) => numbers_there(alloc, tables, asked.field, word),
+        Some(word) => numbers_there(tables, asked.field, word),
         None => Ok(Vec::new(alloc)),
     }
 }
 
 /// Returns the numbers of the rows that have a word there, rising.
-fn numbers_there(
-    alloc: Global,
-    tables: &Tables,
-    field: Field,
-    word: u32,
-) -> Result<Vec<u32>, NoMemory>
+fn numbers_there(tables: &Tables, field: Field, word: u32) -> Result<Vec<u32>, NoMemory>
     ensures { IfOk result (λ found. IsListOf found.items (listed_in field tables.now word)) }
 {
     match field {
-        Field::Any => numbers_anywhere(alloc, tables, word),
-        Field::Subject => numbers_in(alloc, &tables.subject, word),
-        Field::From => numbers_in(alloc, &tables.from, word),
-        Field::Body => numbers_in(alloc, &tables.body, word),
+        Field::Any => numbers_anywhere(tables, word),
+        Field::Subject => numbers_in(&tables.subject, word),
+        Field::From => numbers_in(&tables.from, word),
+        Field::Body => numbers_in(&tables.body, word),
     }
 }
 
 /// Returns the numbers of the rows that have a word in one field, rising.
-fn numbers_in(alloc: Global, postings: &Postings, word: u32) -> Result<Vec<u32>, NoMemory>
+fn numbers_in(postings: &Postings, word: u32) -> Result<Vec<u32>, NoMemory>
     ensures { IfOk result (λ found. IsListOf found.items (posted postings.now word)) }
 {
-    Ok(numbers(alloc, postings, word)?)
+    Ok(postings.numbers(word)?)
 }
 
 /// Returns the numbers of the rows that have a word in any field, rising.
-fn numbers_anywhere(alloc: Global, tables: &Tables, word: u32) -> Result<Vec<u32>, NoMemory>
+fn numbers_anywhere(tables: &Tables, word: u32) -> Result<Vec<u32>, NoMemory>
     ensures { IfOk result (λ found. IsListOf found.items (listed_in Field.Any tables.now word)) }
 {
-    let mut found = numbers(alloc, &tables.subject, word)?;
-    let from = numbers(alloc, &tables.from, word)?;
+    let mut found = tables.subject.numbers(word)?;
+    let from = tables.from.numbers(word)?;
     found.extend_from_slice(from.as_slice())?;
-    let body = numbers(alloc, &tables.body, word)?;
+    let body = tables.body.numbers(word)?;
     found.extend_from_slice(body.as_slice())?;
     Ok(sorted(found))
 }

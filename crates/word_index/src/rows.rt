@@ -32,9 +32,9 @@ impl KeptRow {
         ensures ok { IfOk result (λ row. IsKeptOf held.new words.now day row) }
         ensures keeps { KeepsWords held.old held.new }
     {
-        let subject = held.number_all(words.subject.as_slice())?;
-        let from = held.number_all(words.from.as_slice())?;
-        let body = held.number_all(words.body.as_slice())?;
+        let subject = held.number_all(&words.subject)?;
+        let from = held.number_all(&words.from)?;
+        let body = held.number_all(&words.body)?;
         Ok(KeptRow {
             subject,
             from,

@@ -8,7 +8,7 @@ ghost use Rattle.word_index.specs.Rows.{row_at};
 ghost use Rattle.word_index.specs.Kept.{kept_at};
 ghost use Rattle.word_index.specs.Tables.{rows_of, IsWordIndex, HoldsWords, IsPosted, IsPartlyPosted, Keeps, SameRows};
 
-use crate::postings::{Postings, put_all, remove_all};
+use crate::postings::Postings;
 use crate::rows::{Dated, KeptRow};
 use crate::vocabulary::Vocabulary;
 use arch_base::NoMemory;
@@ -42,22 +42,16 @@ impl Tables {
     {
         Tables {
             words: Vocabulary::new(alloc),
-            subject: BTreeMap::new(alloc),
-            from: BTreeMap::new(alloc),
-            body: BTreeMap::new(alloc),
+            subject: Postings::new(alloc),
+            from: Postings::new(alloc),
+            body: Postings::new(alloc),
             days: BTreeSet::new(alloc),
             rows: BTreeMap::new(alloc),
         }
     }
 
     /// Adds a row. `NoMemory` leaves the rows as they were.
-    pub fn add(
-        &mut self,
-        alloc: Global,
-        n: u32,
-        words: &WordLists,
-        day: u64,
-    ) -> Result<(), NoMemory>
+    pub fn add(&mut self, n: u32, words: &WordLists, day: u64) -> Result<(), NoMemory>
         requires index { IsWordIndex self.old }
         requires spelled { HoldsWords self.old }
         requires new { row_at (rows_of self.old) n ≡ None }
@@ -68,7 +62,7 @@ impl Tables {
         ensures err { OnErr result (rows_of self.new ≡ rows_of self.old) }
     {
         let row = KeptRow::of(&mut self.words, words, day)?;
-        if let Err(refused) = self.post(alloc, n, &row) {
+        if let Err(refused) = self.post(n, &row) {
             self.unpost(n, &row);
             return Err(refused);
         }
@@ -94,15 +88,15 @@ impl Tables {
     /// Adds the number of a row to those of its words and of its day.
     ///
     /// `NoMemory` may leave it added to some of them.
-    fn post(&mut self, alloc: Global, n: u32, row: &KeptRow) -> Result<(), NoMemory>
+    fn post(&mut self, n: u32, row: &KeptRow) -> Result<(), NoMemory>
         requires { IsWordIndex self.old }
         ensures ok { OnOk result (IsPosted self.new n row.now) }
         ensures err { OnErr result (IsPartlyPosted self.new n row.now) }
         ensures rows { SameRows self.old self.new }
     {
-        put_all(alloc, &mut self.subject, row.subject.as_slice(), n)?;
-        put_all(alloc, &mut self.from, row.from.as_slice(), n)?;
-        put_all(alloc, &mut self.body, row.body.as_slice(), n)?;
+        self.subject.put_all(row.subject.as_slice(), n)?;
+        self.from.put_all(row.from.as_slice(), n)?;
+        self.body.put_all(row.body.as_slice(), n)?;
         self.days.insert(row.dated(n))?;
         Ok(())
     }
@@ -135,9 +129,9 @@ impl Tables {
         ensures index { IsWordIndex self.new }
         ensures rows { SameRows self.old self.new }
     {
-        remove_all(&mut self.subject, row.subject.as_slice(), n);
-        remove_all(&mut self.from, row.from.as_slice(), n);
-        remove_all(&mut self.body, row.body.as_slice(), n);
+        self.subject.remove_all(row.subject.as_slice(), n);
+        self.from.remove_all(row.from.as_slice(), n);
+        self.body.remove_all(row.body.as_slice(), n);
         let _ = self.days.remove(&row.dated(n));
     }
 }

@@ -1,9 +1,9 @@
 //! A dozen messages, and an index of them.
-use arch_base::{NoMemory, Texts};
+use arch_base::NoMemory;
 use mail_date::Moment;
 use query_lang::utc_day;
 use std::alloc::Global;
-use text_words::{WordLists, push_words};
+use text_words::{PackedWords, WordLists, push_words};
 use word_index::WordIndex;
 
 /// A message, as an index sees it: the texts of its fields, and its date.
@@ -151,13 +151,13 @@ pub(crate) fn words_of(
     body: &[u8],
 ) -> Result<WordLists, NoMemory> {
     let mut words = WordLists {
-        subject: Texts::new(alloc),
-        from: Texts::new(alloc),
-        body: Texts::new(alloc),
+        subject: PackedWords::new(alloc),
+        from: PackedWords::new(alloc),
+        body: PackedWords::new(alloc),
     };
-    push_words(alloc, subject, &mut words.subject)?;
-    push_words(alloc, from, &mut words.from)?;
-    push_words(alloc, body, &mut words.body)?;
+    push_words(subject, &mut words.subject)?;
+    push_words(from, &mut words.from)?;
+    push_words(body, &mut words.body)?;
     Ok(words)
 }
 

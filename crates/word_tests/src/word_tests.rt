@@ -1,8 +1,7 @@
 //! The words of texts, worked out by the rules.
-use arch_base::Texts;
 use fixtures::{Case, cases};
 use std::alloc::Global;
-use text_words::push_words;
+use text_words::{PackedWords, push_words};
 
 /// Texts, and their words.
 static WORDS: [Case<&'static [&'static [u8]]>; 14] = cases![
@@ -28,16 +27,16 @@ static WORDS: [Case<&'static [&'static [u8]]>; 14] = cases![
 
 /// Returns whether a text has these words.
 fn has_words(alloc: Global, text: &[u8], wanted: &[&[u8]]) -> bool {
-    let mut words = Texts::new(alloc);
-    if push_words(alloc, text, &mut words).is_err() {
+    let mut words = PackedWords::new(alloc);
+    if push_words(text, &mut words).is_err() || words.len() != wanted.len() {
         return false;
     }
-    let words = words.as_slice();
-    words.len() == wanted.len()
-        && words
-            .iter()
-            .zip(wanted.iter())
-            .all(|(word, wanted)| word.as_slice() == *wanted)
+    for index in 0..words.len() {
+        if words.get(index) != wanted[index] {
+            return false;
+        }
+    }
+    true
 }
 
 #[test]

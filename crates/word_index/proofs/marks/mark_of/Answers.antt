@@ -1,5 +1,5 @@
 use Rattle.std.proofs.Common.{◌∙◌}
-use Rattle.word_index.proofs.KeyLemmas.{mark-next}
+use Rattle.word_index.proofs.MarkLemmas.{mark-next}
 use Rattle.word_index.proofs.marks.mark_of.Goals as goal
 
 pub loop-byte-preserved : goal.loop-byte-preserved

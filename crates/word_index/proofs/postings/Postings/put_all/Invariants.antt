@@ -1,0 +1,6 @@
+use Rattle.std.proofs.Common.{take}
+use Rattle.word_index.specs.Postings.{PutsAll}
+use Rattle.word_index.proofs.postings.Postings.put_all.Given as goal
+
+abbrev pub invariant-loop-word : goal.invariant-loop-word
+invariant-loop-word l = PutsAll l.fn.self l.self (take l.word-index l.words) l.n

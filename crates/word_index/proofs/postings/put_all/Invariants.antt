@@ -1,6 +1,0 @@
-use Rattle.std.proofs.Common.{take}
-use Rattle.word_index.specs.Postings.{PutsAll}
-use Rattle.word_index.proofs.postings.put_all.Given as goal
-
-abbrev pub invariant-loop-word : goal.invariant-loop-word
-invariant-loop-word l = PutsAll l.fn.postings l.postings (take l.word-index l.words) l.n
