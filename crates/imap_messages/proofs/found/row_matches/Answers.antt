@@ -6,7 +6,7 @@ use Rattle.imap_syntax.specs.Trees.{tree_of}
 use Rattle.imap_items.specs.Keys.{tree_matches}
 use Rattle.imap_messages.specs.Seeking.{row_keys}
 use Rattle.imap_messages.specs.SearchActs.{text_at}
-use Rattle.imap_messages.proofs.Named.{row-live}
+use Rattle.imap_messages.proofs.Messages.{row-live}
 use Rattle.imap_messages.proofs.Seekings.{rows-found, if-live}
 use Rattle.imap_messages.proofs.found.row_matches.Goals as goal
 
