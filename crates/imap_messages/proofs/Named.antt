@@ -69,7 +69,7 @@ module _ (a : Archive) (f : FetchAsked) (told : List ℕ) (i n : ℕ) (within : 
             → (if r then length (if c then told_message (i + 1) n ∷ filter (λ (m : ToldMessage). is_live a m.uid) (named_from f told (i + 1)) else filter (λ (m : ToldMessage). is_live a m.uid) (named_from f told (i + 1))) else 0)
             ≡ (if c then (if r then 1 else 0) else 0) + (if r then length (filter (λ (m : ToldMessage). is_live a m.uid) (named_from f told (i + 1))) else 0)
         by true true = omega arith
-        by true false = refl
+        by true false = omega arith
         by false true = refl
         by false false = refl
 
@@ -85,7 +85,10 @@ module _ (a : Archive) (f : FetchAsked) (told : List ℕ) (i n : ℕ) (within : 
         or-true false = refl
 
     pub texts-gone : is_some (text_of (live a.entries) n) ≡ false → texts_of a f (named_from f told i) ≡ texts_of a f (named_from f told (i + 1))
-    texts-gone dead = texts-step false dead
+    texts-gone dead = texts-step false dead ∙ none (texts_of a f (named_from f told (i + 1)))
+      where
+        none : (k : ℕ) → 0 + k ≡ k
+        none k = omega arith
 
     -- It is live.
     pub left-line : (gone : Bool) → is_some (text_of (live a.entries) n) ≡ true → fetch_lines a f (named_from f told i) gone ≡ message_line a (shown_items f.numbering f.items) (told_message (i + 1) n) ++ fetch_lines a f (named_from f told (i + 1)) gone

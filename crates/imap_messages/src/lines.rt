@@ -1,6 +1,6 @@
 //! The line of FETCH for one message.
 //! Reads the disk.
-ghost use Rattle.std.specs.Prelude.{◌≡◌, true, false, is_some, Ok, if◌then◌else◌};
+ghost use Rattle.std.specs.Prelude.{◌≡◌, ℕ, true, false, is_some, Ok, if◌then◌else◌};
 ghost use Rattle.arch_model.specs.Archives.{Archive, live, text_of};
 ghost use Rattle.arch_model.specs.Listings.{row_in};
 ghost use Rattle.arch_model.specs.OverShelf.{ShelfKept};

@@ -55,8 +55,8 @@ loop-index-preserved-then-not-is_live g c =
       sink = c.loop-index.invariant.sink;
     }
 
-pub loop-index-preserved-in-Ok : goal.loop-index-preserved-in-Ok
-loop-index-preserved-in-Ok g c =
+pub loop-index-preserved : goal.loop-index-preserved
+loop-index-preserved g c =
     let f = asked_fetch c.args.command.now in
     let told = c.args.told.now.uids in
     let at = c.loop-index.index in

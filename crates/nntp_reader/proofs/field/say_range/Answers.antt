@@ -61,7 +61,7 @@ pub returns-clause-acts : goal.returns-clause-acts
 returns-clause-acts g c = λ moment a rest n held start.
     let before = c.loop-next.invariant.so_far a held in
     let none = left-none c.args.name.now (live a.entries) c.loop-next.begun before.0 c.args.range.last (sym before.1 ∙ c.in_default.is) in
-    rw c.after-2.ensures
+    rw c.after.ensures
     (under-all (λ way. as_said rest (in_way moment a c.args.group (Headers (Field c.args.name.now) (Within c.args.range)) way)) a (line_reader c.args.group rest) _ refused_code true
     (range-streamed moment a c.args.group c.args.name.now c.args.range rest n start) _ _ _ _ c.loop-next.begun before.2 _ c.finish.result refl (rw (none, ← c.start_if.ensures) c.finish.ensures.said))
 
