@@ -1,5 +1,5 @@
 -- The messages that a SEARCH finds.
-use Rattle.std.proofs.Common.{◌≡◌, ◌+◌, ◌≤◌, ◌<◌, ℕ, zero, suc, nat_lt, Bool, true, false, ◌&&◌, ◌||◌, not, List, [], ◌∷◌, ◌++◌, length, map, get_or, drop, Option, Some, None, is_some, inl, inr, Result, Ok, Err, is_ok, OnOk, IfOk, IfErr, refl, sym, ap, subst, ◌∙◌, append_assoc, length-append, arith, if◌then◌else◌}
+use Rattle.std.proofs.Common.{◌≡◌, ◌+◌, ◌≤◌, ◌<◌, ℕ, zero, suc, nat_lt, Bool, true, false, ◌&&◌, List, [], ◌∷◌, ◌++◌, length, map, get_or, drop, Option, Some, None, is_some, Result, Ok, Err, is_ok, OnOk, IfOk, IfErr, refl, sym, ap, subst, ◌∙◌, append_assoc, length-append, arith, if◌then◌else◌}
 use Rattle.std.specs.List.{list_all, list_any, filter, flat_map}
 use Rattle.std.proofs.lemmas.Bool.{or_parts, lt-ltb}
 use Rattle.std.proofs.lemmas.List.{map-append, drop_more}
@@ -21,7 +21,7 @@ use Rattle.arch_model.specs.declared.text_refusal.TextRefusal.{TextRefusal}
 use Rattle.arch_model.specs.declared.text_refusal.TextRefusal.TheVariants as refusal
 use Rattle.imap_syntax.specs.Trees.{KeyTree, trees}
 use Rattle.arch_base.specs.declared.sequence.NoMemory.{NoMemory}
-use Rattle.imap_items.specs.Keys.{MessageText, message_of, tree_matches, tree_reads}
+use Rattle.imap_items.specs.Keys.{message_of, tree_matches, tree_reads}
 use Rattle.imap_items.specs.Laws.{UnreadTextsAreAlike}
 use Rattle.imap_messages.specs.Picking.{ToldMessage, told_message, messages_from, number_by, greatest_uid}
 use Rattle.imap_messages.specs.Wanted.{trees_are_told}
@@ -30,7 +30,7 @@ use Rattle.imap_messages.specs.FetchActs.{IsWhy, GivesTextIf}
 use Rattle.imap_messages.specs.SearchActs.{message_at, IsPlaceAmong, text_at, keys_by, look_of, Appends}
 use Rattle.imap_messages.specs.declared.found.Place.{Place}
 use Rattle.imap_messages.proofs.Named.{messages-at}
-use Rattle.imap_messages.proofs.Messages.{some-of, none-of, row-live, why-spared, says-why}
+use Rattle.imap_messages.proofs.Messages.{some-of, row-live, why-spared, says-why}
 
 -- All keys are those that read no text and those that do.
 keys-split : (p : KeyTree → Bool) (keys : List KeyTree) → list_all p keys ≡ (list_all p (row_keys keys) && list_all p (filter tree_reads keys))

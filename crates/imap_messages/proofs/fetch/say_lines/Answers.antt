@@ -1,4 +1,4 @@
-use Rattle.std.proofs.Common.{◌≡◌, ◌+◌, ◌++◌, ◌∙◌, ℕ, List, true, false, nat_lt, get_or, refl, sym, ap, subst, rules, arith}
+use Rattle.std.proofs.Common.{◌+◌, ◌++◌, ◌∙◌, ℕ, List, true, false, nat_lt, get_or, refl, sym, ap, subst, rules, arith}
 use Rattle.edge_io.specs.Phrases.{Says}
 use Rattle.line_door.specs.Acts.{at_sink}
 use Rattle.arch_model.specs.Archives.{Archive}

@@ -1,11 +1,7 @@
-use Rattle.std.proofs.Common.{◌≡◌, ◌∙◌, ℕ, List, Result, refl, sym, ap, subst}
+use Rattle.std.proofs.Common.{ℕ, List, refl, subst}
 use Rattle.line_door.specs.Acts.{at_sink}
 use Rattle.wire_replies.specs.Waits.{Waits}
-use Rattle.shelf_doors.specs.Streams.{StreamsNext}
-use Rattle.shelf_doors.specs.declared.streamed.StreamStop.{StreamStop}
-use Rattle.imap_messages.specs.Fetching.{asked_fetch, shown_items, message_line, reads_texts, line_with}
-use Rattle.imap_messages.specs.Picking.{told_message}
-use Rattle.imap_messages.specs.Tagged.{no_code}
+use Rattle.imap_messages.specs.Fetching.{asked_fetch, line_with}
 use Rattle.imap_messages.proofs.Messages.{said}
 use Rattle.imap_messages.proofs.lines.push_message.Goals as goal
 
