@@ -3,6 +3,9 @@ use Rattle.std.specs.Prelude.{◌==◌, ℕ, List, [], ◌∷◌, map, reverse, 
 use Rattle.std.specs.declared.cmp.Ordering.{Ordering}
 use Rattle.std.specs.BTreeSet.{insert_key}
 use Rattle.std.specs.Ordering.{nat_cmp, ordering_then}
+use Rattle.mail_commits.specs.Commits.{written_at}
+use Rattle.mail_commits.specs.Facts.{date_fact}
+use Rattle.mail_date.specs.declared.moment.Moment.{Moment}
 use Rattle.mail_forms.specs.declared.row.Row.{Row}
 use Rattle.mail_reader.specs.Ids.{own_id}
 use Rattle.arch_model.specs.Archives.{Entry, is_id}
@@ -28,9 +31,13 @@ abbrev pub number_of_id : List Entry → List ℕ → Option ℕ
 number_of_id [] id = None
 number_of_id (e ∷ es) id = if is_id id (own_id e.text) then Some e.number else number_of_id es id
 
+-- The date of a message: the one that its text names, or else the moment of its entry.
+abbrev pub date_at : Entry → Moment
+date_at e = written_at (date_fact e.text) e.moment
+
 -- The seconds of a message's date, since 1970 in UTC, and its number.
 abbrev pub dated : Entry → ℕ × ℕ
-dated e = ((row_at e).date.secs, e.number)
+dated e = ((date_at e).secs, e.number)
 
 -- The order of dates, and of numbers if the dates are the same.
 abbrev pub date_cmp : ℕ × ℕ → ℕ × ℕ → Ordering

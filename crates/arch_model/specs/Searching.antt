@@ -6,12 +6,12 @@ use Rattle.query_lang.specs.declared.query.Query.{Query}
 use Rattle.query_lang.specs.Dates.{utc_day}
 use Rattle.query_lang.specs.Matching.{matches}
 use Rattle.arch_model.specs.Archives.{Entry}
-use Rattle.arch_model.specs.Listings.{row_at, listing}
+use Rattle.arch_model.specs.Listings.{date_at, listing}
 
 -- A message matches a query: its text has each word that is asked, where it is asked, and the day of
 -- its date in UTC lies in each range.
 abbrev pub is_match : Query → Entry → Bool
-is_match query e = matches query (mail_words e.text) (utc_day (row_at e).date)
+is_match query e = matches query (mail_words e.text) (utc_day (date_at e))
 
 -- The numbers of the messages that match, newest first: the listing of those messages.
 unfoldable pub search : Query → List Entry → List ℕ

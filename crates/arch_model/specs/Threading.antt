@@ -1,12 +1,13 @@
 -- The threads of live messages.
 use Rattle.std.specs.Prelude.{◌==◌, ℕ, List, [], ◌∷◌, map, if◌then◌else◌}
 use Rattle.thread_model.specs.Threads.{KeyedRow, thread}
+use Rattle.mail_reader.specs.References.{refs_of}
 use Rattle.arch_model.specs.Archives.{Entry}
-use Rattle.arch_model.specs.Listings.{row_at}
+use Rattle.arch_model.specs.Overviews.{id_fact}
 
 -- The keys of a message: its own id, and the ids of the messages that it answers.
 abbrev pub keys_of : Entry → List (List ℕ)
-keys_of e = (row_at e).id ∷ (row_at e).refs
+keys_of e = id_fact e.text ∷ refs_of e.text
 
 -- Messages by number, with their keys.
 abbrev pub keyed : List Entry → List KeyedRow

@@ -1,4 +1,3 @@
-pub mod Streams
 pub mod Named
 pub mod Messages
 pub mod Seekings

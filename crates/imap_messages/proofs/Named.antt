@@ -1,42 +1,36 @@
 -- The messages that a FETCH names, one after another, and what it says of them.
-use Rattle.std.proofs.Common.{◌≡◌, ◌==◌, ◌+◌, ◌≤◌, ◌<◌, ◌⊎◌, ℕ, suc, nat_lt, Bool, true, false, not, ◌||◌, List, [], ◌∷◌, ◌++◌, length, get_or, drop, Option, Some, None, is_some, Result, Ok, Err, inl, inr, refl, sym, ap, subst, ◌∙◌, append_assoc, append-nil, length-append, arith, if◌then◌else◌}
+use Rattle.std.proofs.Common.{◌≡◌, ◌+◌, ◌≤◌, ◌<◌, ℕ, nat_lt, Bool, true, false, not, ◌||◌, List, [], ◌∷◌, ◌++◌, length, get_or, drop, Option, Some, is_some, Ok, refl, sym, ap, subst, ◌∙◌, append_assoc, length-append, arith, if◌then◌else◌}
 use Rattle.std.specs.List.{filter, flat_map, list_any}
 use Rattle.std.proofs.lemmas.Bool.{or_parts, lt-ltb}
 use Rattle.std.proofs.lemmas.List.{drop_more, drop_all}
-use Rattle.std.proofs.lemmas.List.Elements.{filter-append}
 use Rattle.mail_forms.specs.declared.row.Row.{Row}
-use Rattle.arch_model.specs.Archives.{Entry, Archive, live, text_of}
-use Rattle.arch_model.specs.Listings.{row_in, row_at}
+use Rattle.arch_model.specs.Archives.{Archive, live, text_of}
+use Rattle.arch_model.specs.Listings.{row_in}
 use Rattle.arch_model.specs.Shelves.{ReadsUpTo, ReadsAhead}
 use Rattle.known_uids.specs.Told.{Known, is_live}
-use Rattle.line_door.specs.Acts.{ConnectionState, Said, Departure, Plain, Memory, Disk, Newer}
+use Rattle.line_door.specs.Acts.{ConnectionState, Departure, Plain, Memory, Disk, Newer}
 use Rattle.line_door.specs.Making.{says, streams}
 use Rattle.imap_syntax.specs.declared.items.Item.{Item}
 use Rattle.imap_syntax.specs.declared.items.Item.TheVariants as item
 use Rattle.imap_items.specs.Items.{item_of}
 use Rattle.shelf_doors.specs.Refusals.{disk_line}
+use Rattle.shelf_doors.specs.Streams.{StreamWays, Given}
+use Rattle.shelf_doors.proofs.Streaming.{Under, under-start, under-more}
 use Rattle.imap_messages.specs.declared.numbering.Numbering.{Numbering}
 use Rattle.imap_messages.specs.declared.numbering.Numbering.TheVariants as number
-use Rattle.imap_messages.specs.Picking.{ToldMessage, told_message, messages_from, picked, is_outside}
+use Rattle.imap_messages.specs.Picking.{ToldMessage, told_message, messages_from, star_of, picks, picked, is_outside}
 use Rattle.imap_messages.specs.Tagged.{no_code, bad_line, tagged}
-use Rattle.imap_messages.specs.Fetching.{FetchAsked, needs_text, is_uid, shown_items, spaced_item, items_words, line_with, line_if, message_line, is_gone, fetch_end, fetch_lines, fetch_words, fetch_plain, reads_texts, fetch_said, texts_of, fetch_texts}
-use Rattle.imap_messages.specs.FetchActs.{GivesTextIf, MakesItems, names, named_from, line_of, goes}
-use Rattle.imap_messages.specs.FetchActs.{IsLine}
-use Rattle.imap_messages.specs.declared.lines.Seen.{Seen}
-use Rattle.imap_messages.specs.declared.lines.Line.TheVariants as line
-use Rattle.imap_messages.proofs.Streams.{StreamWays, Under, under-start, under-more, under-same}
+use Rattle.imap_messages.specs.Fetching.{FetchAsked, needs_text, is_uid, shown_items, spaced_item, items_words, line_if, message_line, is_gone, fetch_end, fetch_lines, fetch_words, fetch_plain, reads_texts, fetch_said, texts_of, fetch_texts}
+use Rattle.imap_messages.specs.FetchActs.{GivesTextIf, MakesItems, names, named_from}
+use Rattle.imap_messages.proofs.Messages.{none-of, line-some}
 
 -- A message at an index is before the others from there on.
 pub messages-at : (told : List ℕ) (i n : ℕ) → i < length told → n ≡ get_or told i 0 → messages_from (i + 1) (drop i told) ≡ told_message (i + 1) n ∷ messages_from (i + 1 + 1) (drop (i + 1) told)
 messages-at told i n within is = rw (drop_more told i 0 within, ← is) refl
 
--- The named ones of a message and others.
-filter-names : (f : FetchAsked) (told : List ℕ) (m : ToldMessage) (ms : List ToldMessage) → filter (names f told) (m ∷ ms) ≡ filter (names f told) (m ∷ []) ++ filter (names f told) ms
-filter-names f told m ms = by (names f told m) refl
-  where
-    by : (b : Bool) → names f told m ≡ b → filter (names f told) (m ∷ ms) ≡ filter (names f told) (m ∷ []) ++ filter (names f told) ms
-    by true e = rw e refl
-    by false e = rw e refl
+-- A set has a message, or not.
+pub named-by : (f : FetchAsked) (told : List ℕ) (m : ToldMessage) (star : ℕ) (b : Bool) → star ≡ star_of f.numbering told → picks f.numbering f.set star m ≡ b → names f told m ≡ b
+named-by f told m star b is has = ap (λ (x : ℕ). picks f.numbering f.set x m) (sym is) ∙ has
 
 -- What is said of a named message, and of those after it.
 lines-first : (a : Archive) (f : FetchAsked) (m : ToldMessage) (ms : List ToldMessage) (gone : Bool) → fetch_lines a f (m ∷ ms) gone ≡ message_line a (shown_items f.numbering f.items) m ++ fetch_lines a f ms (gone || is_gone a m)
@@ -51,24 +45,69 @@ lines-first a f m ms gone =
     either-joined true q r = refl
     either-joined false q r = refl
 
-lines-named : (a : Archive) (f : FetchAsked) (told : List ℕ) (m : ToldMessage) (ms : List ToldMessage) (gone : Bool)
-    → fetch_lines a f (filter (names f told) (m ∷ ms)) gone ≡ line_of a f told m ++ fetch_lines a f (filter (names f told) ms) (gone || goes a f told m)
-lines-named a f told m ms gone = by (names f told m) refl
-  where
-    none : (b : Bool) → (b || false) ≡ b
-    none true = refl
-    none false = refl
+-- The message at an index, and what is left from there on.
+module _ (a : Archive) (f : FetchAsked) (told : List ℕ) (i n : ℕ) (within : i < length told) (is : n ≡ get_or told i 0) where
+  named-step : (b : Bool) → names f told (told_message (i + 1) n) ≡ b → named_from f told i ≡ (if b then told_message (i + 1) n ∷ named_from f told (i + 1) else named_from f told (i + 1))
+  named-step b e =
+      ap (filter (names f told)) (messages-at told i n within is) ∙ ap (λ (x : Bool). if x then told_message (i + 1) n ∷ named_from f told (i + 1) else named_from f told (i + 1)) e
 
-    by : (b : Bool) → names f told m ≡ b → fetch_lines a f (filter (names f told) (m ∷ ms)) gone ≡ line_of a f told m ++ fetch_lines a f (filter (names f told) ms) (gone || goes a f told m)
-    by true e = rw e (lines-first a f m (filter (names f told) ms) gone)
-    by false e = rw e (ap (fetch_lines a f (filter (names f told) ms)) (sym (none gone)))
+  -- It isn't named.
+  pub passed : names f told (told_message (i + 1) n) ≡ false → named_from f told i ≡ named_from f told (i + 1)
+  passed unnamed = named-step false unnamed
 
--- What is left from an index on is what is said of the message there, and what is left after it.
-pub left-at : (a : Archive) (f : FetchAsked) (told : List ℕ) (i n : ℕ) (gone : Bool) → i < length told → n ≡ get_or told i 0
-    → fetch_lines a f (named_from f told i) gone ≡ line_of a f told (told_message (i + 1) n) ++ fetch_lines a f (named_from f told (i + 1)) (gone || goes a f told (told_message (i + 1) n))
-left-at a f told i n gone within is =
-    ap (λ (ms : List ToldMessage). fetch_lines a f (filter (names f told) ms) gone) (messages-at told i n within is)
-    ∙ lines-named a f told (told_message (i + 1) n) (messages_from (i + 1 + 1) (drop (i + 1) told)) gone
+  module _ (named : names f told (told_message (i + 1) n) ≡ true) where
+    lines-step : (gone : Bool) → fetch_lines a f (named_from f told i) gone ≡ message_line a (shown_items f.numbering f.items) (told_message (i + 1) n) ++ fetch_lines a f (named_from f told (i + 1)) (gone || not (is_some (text_of (live a.entries) n)))
+    lines-step gone = ap (λ (ms : List ToldMessage). fetch_lines a f ms gone) (named-step true named) ∙ lines-first a f (told_message (i + 1) n) (named_from f told (i + 1)) gone
+
+    texts-step : (b : Bool) → is_some (text_of (live a.entries) n) ≡ b → texts_of a f (named_from f told i) ≡ (if b then (if reads_texts f then 1 else 0) else 0) + texts_of a f (named_from f told (i + 1))
+    texts-step b e =
+        ap (texts_of a f) (named-step true named)
+        ∙ ap (λ (x : Bool). if reads_texts f then length (if x then told_message (i + 1) n ∷ filter (λ (m : ToldMessage). is_live a m.uid) (named_from f told (i + 1)) else filter (λ (m : ToldMessage). is_live a m.uid) (named_from f told (i + 1))) else 0) e
+        ∙ by (reads_texts f) b
+      where
+        by : (r c : Bool)
+            → (if r then length (if c then told_message (i + 1) n ∷ filter (λ (m : ToldMessage). is_live a m.uid) (named_from f told (i + 1)) else filter (λ (m : ToldMessage). is_live a m.uid) (named_from f told (i + 1))) else 0)
+            ≡ (if c then (if r then 1 else 0) else 0) + (if r then length (filter (λ (m : ToldMessage). is_live a m.uid) (named_from f told (i + 1))) else 0)
+        by true true = omega arith
+        by true false = omega arith
+        by false true = refl
+        by false false = refl
+
+    -- It is gone.
+    pub left-gone : (gone : Bool) → is_some (text_of (live a.entries) n) ≡ false → fetch_lines a f (named_from f told i) gone ≡ fetch_lines a f (named_from f told (i + 1)) true
+    left-gone gone dead =
+        lines-step gone
+        ∙ ap (λ (o : Option (List ℕ)). line_if (i + 1) (shown_items f.numbering f.items) o (row_in (live a.entries) n) ++ fetch_lines a f (named_from f told (i + 1)) (gone || not (is_some (text_of (live a.entries) n)))) (none-of (text_of (live a.entries) n) dead)
+        ∙ ap (fetch_lines a f (named_from f told (i + 1))) (ap (λ (x : Bool). gone || not x) dead ∙ or-true gone)
+      where
+        or-true : (p : Bool) → (p || true) ≡ true
+        or-true true = refl
+        or-true false = refl
+
+    pub texts-gone : is_some (text_of (live a.entries) n) ≡ false → texts_of a f (named_from f told i) ≡ texts_of a f (named_from f told (i + 1))
+    texts-gone dead = texts-step false dead ∙ none (texts_of a f (named_from f told (i + 1)))
+      where
+        none : (k : ℕ) → 0 + k ≡ k
+        none k = omega arith
+
+    -- It is live.
+    pub left-line : (gone : Bool) → is_some (text_of (live a.entries) n) ≡ true → fetch_lines a f (named_from f told i) gone ≡ message_line a (shown_items f.numbering f.items) (told_message (i + 1) n) ++ fetch_lines a f (named_from f told (i + 1)) gone
+    left-line gone lives =
+        lines-step gone
+        ∙ ap (λ (x : Bool). message_line a (shown_items f.numbering f.items) (told_message (i + 1) n) ++ fetch_lines a f (named_from f told (i + 1)) x) (ap (λ (x : Bool). gone || not x) lives ∙ or-false gone)
+      where
+        or-false : (p : Bool) → (p || false) ≡ p
+        or-false true = refl
+        or-false false = refl
+
+    pub texts-live : is_some (text_of (live a.entries) n) ≡ true → texts_of a f (named_from f told i) ≡ (if reads_texts f then 1 else 0) + texts_of a f (named_from f told (i + 1))
+    texts-live lives = texts-step true lives
+
+    -- Its line was appended.
+    pub under-line : is_some (text_of (live a.entries) n) ≡ true → (reply : List ℕ) (gone begun : Bool) (from : ConnectionState) (waiting : List ℕ) (at : ConnectionState) → Under reply (fetch_lines a f (named_from f told i) gone) begun from waiting at
+        → (new : List ℕ) (k : ConnectionState) → Given (message_line a (shown_items f.numbering f.items) (told_message (i + 1) n)) waiting at (Ok tt) new k → Under reply (fetch_lines a f (named_from f told (i + 1)) gone) true from new k
+    under-line lives reply gone begun from waiting at before new k given =
+        under-more reply (fetch_lines a f (named_from f told i) gone) begun from waiting at before (message_line a (shown_items f.numbering f.items) (told_message (i + 1) n)) (fetch_lines a f (named_from f told (i + 1)) gone) new k (left-line gone lives) (line-some a f (i + 1) n lives) given
 
 -- All that is named is named from the first index on, and none from behind the last.
 pub named-all : (f : FetchAsked) (told : List ℕ) → picked f.numbering f.set told ≡ named_from f told 0
@@ -86,15 +125,6 @@ named-none a f told i gone past = rw (drop_all i told past) (ap (λ (b : Bool). 
 pub left-some : (a : Archive) (f : FetchAsked) (ms : List ToldMessage) (gone : Bool) → 0 < length (fetch_lines a f ms gone)
 left-some a f ms gone =
     omega (arith, length-append (flat_map (message_line a (shown_items f.numbering f.items)) ms) (tagged f.tag (fetch_end f.numbering (gone || list_any (is_gone a) ms))), length-append f.tag (tagged [] (fetch_end f.numbering (gone || list_any (is_gone a) ms))))
-
--- A live message has a row.
-pub row-live : (entries : List Entry) (n : ℕ) → is_some (row_in entries n) ≡ is_some (text_of entries n)
-row-live [] n = refl
-row-live (e ∷ es) n = by (e.number == n) refl (row-live es n)
-  where
-    by : (b : Bool) → (e.number == n) ≡ b → is_some (row_in es n) ≡ is_some (text_of es n) → is_some (row_in (e ∷ es) n) ≡ is_some (text_of (e ∷ es) n)
-    by true is more = rw is refl
-    by false is more = rw is more
 
 -- An item that doesn't need the text is the same of any.
 item-alike : (text other : List ℕ) (row : Row) (i : Item) → needs_text i ≡ false → item_of text row i ≡ item_of other row i
@@ -150,27 +180,12 @@ items-made f found shown text row made given there is t r has_text has_row = by 
         rw (← same, ← equal) is
     by false reads = rw (← same) (is ∙ items-alike f.numbering text t row f.items reads)
 
--- The texts of a message, and of those after it.
-pub texts-at : (a : Archive) (f : FetchAsked) (told : List ℕ) (i n : ℕ) → i < length told → n ≡ get_or told i 0
-    → texts_of a f (named_from f told i) ≡ texts_of a f (filter (names f told) (told_message (i + 1) n ∷ [])) + texts_of a f (named_from f told (i + 1))
-texts-at a f told i n within is =
-    ap (λ (ms : List ToldMessage). texts_of a f (filter (names f told) ms)) (messages-at told i n within is)
-    ∙ ap (texts_of a f) (filter-names f told (told_message (i + 1) n) (messages_from (i + 1 + 1) (drop (i + 1) told)))
-    ∙ texts-append (filter (names f told) (told_message (i + 1) n ∷ [])) (named_from f told (i + 1))
-  where
-    texts-append : (xs ys : List ToldMessage) → texts_of a f (xs ++ ys) ≡ texts_of a f xs + texts_of a f ys
-    texts-append xs ys = by (reads_texts f) refl
-      where
-        by : (b : Bool) → reads_texts f ≡ b → texts_of a f (xs ++ ys) ≡ texts_of a f xs + texts_of a f ys
-        by true e = rw e (ap length (filter-append (λ (m : ToldMessage). is_live a m.uid) xs ys) ∙ length-append (filter (λ (m : ToldMessage). is_live a m.uid) xs) (filter (λ (m : ToldMessage). is_live a m.uid) ys))
-        by false e = rw e refl
-
 -- A reply that is streamed, and what is said in its place.
-pub fetch-ways : (a : Archive) (k : Known) (f : FetchAsked) → is_outside f.numbering f.set k.uids ≡ false → StreamWays (fetch_said a k f) a k (fetch_words a k.uids f) (no_code f.tag) (texts_of a f (picked f.numbering f.set k.uids))
+pub fetch-ways : (a : Archive) (k : Known) (f : FetchAsked) → is_outside f.numbering f.set k.uids ≡ false → StreamWays (fetch_said a k f) a k (fetch_words a k.uids f) (no_code f.tag) (nat_lt 0 (texts_of a f (picked f.numbering f.set k.uids)))
 fetch-ways a k f inside = record {
   by_rules = plain;
   no_memory = refl;
-  no_disk = λ some. ap (λ (b : Bool). if b then says a k (disk_line (no_code f.tag)) else fetch_plain a k f) (lt-ltb 0 (fetch_texts a k f) (subst (λ (n : ℕ). 0 < n) (sym texts) some));
+  no_disk = λ some. ap (λ (b : Bool). if b then says a k (disk_line (no_code f.tag)) else fetch_plain a k f) (ap (nat_lt 0) texts ∙ some);
   after = after;
 }
   where
@@ -194,23 +209,6 @@ fetch-ways a k f inside = record {
     after Disk = disk-after (nat_lt 0 (fetch_texts a k f))
     after Newer = plain-after (is_outside f.numbering f.set k.uids)
 
--- What is left after a message, and the texts that are left.
-module _ (a : Archive) (f : FetchAsked) (told : List ℕ) (reply : List ℕ) (i n : ℕ) (within : i < length told) (is : n ≡ get_or told i 0) (seen : Seen) (from : ConnectionState) (waiting : List ℕ) (at : ConnectionState)
-    (before : Under reply (fetch_lines a f (named_from f told i) seen.gone) seen.begun from waiting at) where
-  left : fetch_lines a f (named_from f told i) seen.gone ≡ line_of a f told (told_message (i + 1) n) ++ fetch_lines a f (named_from f told (i + 1)) (seen.gone || goes a f told (told_message (i + 1) n))
-  left = left-at a f told i n seen.gone within is
-
-  -- The message was passed over, or its line was appended.
-  pub went : (next : Seen) (new : List ℕ) (k : ConnectionState) → IsLine a f told (told_message (i + 1) n) seen waiting at (line.Went next) new k → Under reply (fetch_lines a f (named_from f told (i + 1)) next.gone) next.begun from new k
-  went next new k (gone, inl same) =
-      subst (λ (b : Bool). Under reply (fetch_lines a f (named_from f told (i + 1)) b) next.begun from new k) (sym gone)
-      (under-same reply (fetch_lines a f (named_from f told i) seen.gone) seen.begun from waiting at before (fetch_lines a f (named_from f told (i + 1)) (seen.gone || goes a f told (told_message (i + 1) n))) new next.begun k
-      (left ∙ ap (λ (x : List ℕ). x ++ fetch_lines a f (named_from f told (i + 1)) (seen.gone || goes a f told (told_message (i + 1) n))) same.0) same.1 same.2 same.3)
-  went next new k (gone, inr more) =
-      subst (λ (b : Bool). Under reply (fetch_lines a f (named_from f told (i + 1)) b) next.begun from new k) (sym gone)
-      (subst (λ (b : Bool). Under reply (fetch_lines a f (named_from f told (i + 1)) (seen.gone || goes a f told (told_message (i + 1) n))) b from new k) (sym more.2)
-      (under-more reply (fetch_lines a f (named_from f told i) seen.gone) seen.begun from waiting at before (line_of a f told (told_message (i + 1) n)) (fetch_lines a f (named_from f told (i + 1)) (seen.gone || goes a f told (told_message (i + 1) n))) new k left more.0 more.1))
-
 -- The first texts of so many are within all.
 pub texts-fit : (most here rest before now : ℕ) → ReadsAhead most (here + rest) before now → here ≤ most
 texts-fit most here rest before now reads = let later = reads.later in omega (arith, later, reads.bound)
@@ -221,12 +219,14 @@ ahead-on most all here rest before mid now parts reads more = record { later = o
 pub ahead-stop : (most all here rest before mid now : ℕ) → all ≡ here + rest → ReadsAhead most all before mid → ReadsUpTo here mid now → ReadsUpTo most before now
 ahead-stop most all here rest before mid now parts reads more = record { later = omega (arith, reads.later, more.later); bound = omega (arith, parts, reads.bound, more.bound) }
 
-pub ahead-end : (most all before now : ℕ) → ReadsAhead most all before now → ReadsUpTo most before now
-ahead-end most all before now reads = record { later = reads.later; bound = omega (arith, reads.bound) }
+-- A text that is needed is one of all; and where there is none, none is needed.
+pub texts-needed : (needs : Bool) (most all rest before now : ℕ) → all ≡ (if needs then 1 else 0) + rest → ReadsAhead most all before now → needs ≡ true → nat_lt 0 most ≡ true
+texts-needed true most all rest before now parts reads e = let later = reads.later in lt-ltb 0 most (omega (arith, parts, later, reads.bound))
+texts-needed false most all rest before now parts reads e = absurd (cc e)
 
--- Where there are none of them, there are none of the first.
-pub none-here : (most all here rest before now : ℕ) → all ≡ here + rest → ReadsAhead most all before now → most ≡ 0 → here ≡ 0
-none-here most all here rest before now parts reads none = let later = reads.later in omega (arith, parts, later, reads.bound, none)
+pub texts-spared : (needs : Bool) (most all rest before now : ℕ) → all ≡ (if needs then 1 else 0) + rest → ReadsAhead most all before now → most ≡ 0 → needs ≡ false
+texts-spared true most all rest before now parts reads none = let later = reads.later in absurd (omega (arith, parts, later, reads.bound, none))
+texts-spared false most all rest before now parts reads none = refl
 
 -- Before the first message.
 pub start : (a : Archive) (f : FetchAsked) (told : List ℕ) (from : ConnectionState) (waiting : List ℕ) → waiting ≡ [] → Under (fetch_words a told f) (fetch_lines a f (named_from f told 0) false) false from waiting from

@@ -1,5 +1,5 @@
 -- The messages that a SEARCH finds.
-use Rattle.std.proofs.Common.{◌≡◌, ◌+◌, ◌≤◌, ◌<◌, ℕ, zero, suc, nat_lt, Bool, true, false, ◌&&◌, ◌||◌, not, List, [], ◌∷◌, ◌++◌, length, map, get_or, drop, Option, Some, None, is_some, inl, inr, Result, Ok, Err, is_ok, OnOk, IfOk, IfErr, refl, sym, ap, subst, ◌∙◌, append_assoc, length-append, arith, if◌then◌else◌}
+use Rattle.std.proofs.Common.{◌≡◌, ◌+◌, ◌≤◌, ◌<◌, ℕ, zero, suc, nat_lt, Bool, true, false, ◌&&◌, List, [], ◌∷◌, ◌++◌, length, map, get_or, drop, Option, Some, None, is_some, Result, Ok, Err, is_ok, OnOk, IfOk, IfErr, refl, sym, ap, subst, ◌∙◌, append_assoc, length-append, arith, if◌then◌else◌}
 use Rattle.std.specs.List.{list_all, list_any, filter, flat_map}
 use Rattle.std.proofs.lemmas.Bool.{or_parts, lt-ltb}
 use Rattle.std.proofs.lemmas.List.{map-append, drop_more}
@@ -9,10 +9,11 @@ use Rattle.arch_model.specs.Shelves.{ReadingWhy, ReadsUpTo}
 use Rattle.edge_io.specs.Phrases.{Says}
 use Rattle.edge_io.specs.declared.sink.SinkFault.{SinkFault}
 use Rattle.known_uids.specs.Told.{Known}
-use Rattle.line_door.specs.Acts.{ConnectionState, Plain, Memory, Disk, Acts, held_if}
+use Rattle.line_door.specs.Acts.{ConnectionState, Plain, Acts, held_if}
 use Rattle.line_door.specs.Making.{says}
 use Rattle.line_door.proofs.Acting.{acts-by_held}
-use Rattle.shelf_doors.specs.Refusals.{memory_line, disk_line, unread_line}
+use Rattle.shelf_doors.specs.Refusals.{disk_line, unread_line}
+use Rattle.shelf_doors.proofs.Streaming.{acts-why}
 use Rattle.imap_messages.specs.Tagged.{bad_line, no_code}
 use Rattle.arch_model.specs.Archives.{Archive, live, text_of}
 use Rattle.arch_model.specs.Listings.{row_in}
@@ -20,16 +21,16 @@ use Rattle.arch_model.specs.declared.text_refusal.TextRefusal.{TextRefusal}
 use Rattle.arch_model.specs.declared.text_refusal.TextRefusal.TheVariants as refusal
 use Rattle.imap_syntax.specs.Trees.{KeyTree, trees}
 use Rattle.arch_base.specs.declared.sequence.NoMemory.{NoMemory}
-use Rattle.imap_items.specs.Keys.{MessageText, message_of, tree_matches, tree_reads}
+use Rattle.imap_items.specs.Keys.{message_of, tree_matches, tree_reads}
 use Rattle.imap_items.specs.Laws.{UnreadTextsAreAlike}
 use Rattle.imap_messages.specs.Picking.{ToldMessage, told_message, messages_from, number_by, greatest_uid}
 use Rattle.imap_messages.specs.Wanted.{trees_are_told}
 use Rattle.imap_messages.specs.Seeking.{SearchAsked, matches_all, matches_if, is_sought, sought, looks_at_texts, row_keys, looks_of, spaced_number, numbers_words, search_words, search_plain, search_said, search_texts, charset_line, is_known_charset}
-use Rattle.imap_messages.specs.FetchActs.{IsWhy, GivesTextIf, SaysWhy}
+use Rattle.imap_messages.specs.FetchActs.{IsWhy, GivesTextIf}
 use Rattle.imap_messages.specs.SearchActs.{message_at, IsPlaceAmong, text_at, keys_by, look_of, Appends}
 use Rattle.imap_messages.specs.declared.found.Place.{Place}
-use Rattle.imap_messages.proofs.Named.{row-live, messages-at}
-use Rattle.imap_messages.proofs.Messages.{some-of, none-of, why-spared, says-why}
+use Rattle.imap_messages.proofs.Named.{messages-at}
+use Rattle.imap_messages.proofs.Messages.{some-of, row-live, why-spared, says-why}
 
 -- All keys are those that read no text and those that do.
 keys-split : (p : KeyTree → Bool) (keys : List KeyTree) → list_all p keys ≡ (list_all p (row_keys keys) && list_all p (filter tree_reads keys))
@@ -215,11 +216,6 @@ if-live (Err refused) P p = tt
 pub numbers-left : (numbers : List ℕ) (i : ℕ) → i < length numbers → flat_map spaced_number (drop i numbers) ≡ spaced_number (get_or numbers i 0) ++ flat_map spaced_number (drop (i + 1) numbers)
 numbers-left numbers i within = ap (flat_map spaced_number) (drop_more numbers i 0 within)
 
--- A count that isn't 0.
-pub positive : (n : ℕ) → nat_lt 0 n ≡ true → 0 < n
-positive zero e = absurd (cc e)
-positive (suc n) e = omega arith
-
 -- The texts of a SEARCH that is searched.
 texts-by : (a : Archive) (k : Known) (s : SearchAsked) → trees_are_told (length k.uids) (trees s.keys) ≡ true → is_known_charset s.charset ≡ true → search_texts a k s ≡ looks_of a k.uids s (messages_from 1 k.uids)
 texts-by a k s t n =
@@ -258,17 +254,12 @@ module _ (a : Archive) (k : Known) (s : SearchAsked) (i j : ConnectionState) (se
       by-plain (search_words a k.uids s) (plain-by true true t n) kept (subst (λ (x : List ℕ). Says (numbers_words s.tag s.numbering x) i.out i.lost j.out j.lost sent) is said)
 
   -- It was said why they aren't known.
-  pub search-unread : SaysWhy (search_texts a k s) (no_code s.tag) i sent j → Acts (search_said a k s) i (held_if (is_ok sent) k) a j
-  search-unread (inl disk) =
-      acts-by_held (search_said a k s) Disk (says a k (disk_line (no_code s.tag))) i j k a sent
-      (ap (λ (b : Bool). if b then says a k (disk_line (no_code s.tag)) else search_plain a k s) (lt-ltb 0 (search_texts a k s) disk.0)) refl disk.1 disk.2 disk.3 refl
-  search-unread (inr memory) = acts-by_held (search_said a k s) Memory (says a k (memory_line (no_code s.tag))) i j k a sent refl refl memory.0 (omega (arith, memory.0)) memory.1 refl
-
   pub search-why : trees_are_told (length k.uids) (trees s.keys) ≡ true → is_known_charset s.charset ≡ true → (mid : ConnectionState) (why : TextRefusal) → IsWhy (nat_lt 0 (looks_of a k.uids s (messages_from 1 k.uids))) why → ReadingWhy i.disk mid.disk why → i.disk ≤ mid.disk
       → i.out ≡ mid.out → i.lost ≡ mid.lost → j.disk ≡ mid.disk → Says (unread_line (no_code s.tag) why) mid.out mid.lost j.out j.lost sent → Acts (search_said a k s) i (held_if (is_ok sent) k) a j
   search-why t n mid why is cause later out lost same said =
-      search-unread (says-why (nat_lt 0 (looks_of a k.uids s (messages_from 1 k.uids))) (search_texts a k s) (no_code s.tag) i mid j why sent is
-      (λ e. subst (λ (x : ℕ). 0 < x) (sym (texts-by a k s t n)) (positive (looks_of a k.uids s (messages_from 1 k.uids)) e)) cause later out lost same said)
+      acts-why (search_said a k s) a k (no_code s.tag) (nat_lt 0 (looks_of a k.uids s (messages_from 1 k.uids))) i j sent refl
+      (λ e. ap (λ (b : Bool). if b then says a k (disk_line (no_code s.tag)) else search_plain a k s) (ap (nat_lt 0) (texts-by a k s t n) ∙ e))
+      (says-why (nat_lt 0 (looks_of a k.uids s (messages_from 1 k.uids))) (no_code s.tag) i mid j why sent is cause later out lost same said)
 
   -- The texts that were read.
   pub search-reads : trees_are_told (length k.uids) (trees s.keys) ≡ true → is_known_charset s.charset ≡ true → (before now : ℕ) → ReadsUpTo (looks_of a k.uids s (messages_from 1 k.uids)) before now → ReadsUpTo (search_texts a k s) before now

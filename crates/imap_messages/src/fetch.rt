@@ -12,10 +12,10 @@ ghost use Rattle.imap_messages.specs.Tagged.{tagged};
 ghost use Rattle.imap_messages.specs.Sparing.{SparedIn};
 ghost use Rattle.imap_messages.specs.Fetching.{asked_fetch, fetch_end, fetch_said, texts_of, fetch_texts};
 
-use crate::lines::{Line, Seen, push_message};
-use crate::numbering::{Numbering, is_outside, star};
+use crate::lines::push_message;
+use crate::numbering::{Numbering, is_outside, picks, star};
 use crate::refusals::say_bad;
-use arch_model::{Next, Shelf};
+use arch_model::{Next, Shelf, is_live};
 use edge_io::{Sink, SinkFault};
 use imap_syntax::{Item, SeqSet};
 use known_uids::KnownUids;
@@ -97,37 +97,25 @@ fn say_lines<S: Shelf, O: Sink>(
     let uids = told.uids();
     let count = told.count();
     let mut reply = Waiting::new();
-    let mut seen = Seen {
-        begun: false,
-        gone: false,
-    };
+    let mut begun = false;
+    let mut gone = false;
     let mut index = 0;
     while index < count {
         let uid = uids[index as usize];
-        match push_message(
-            command,
-            star,
-            index + 1,
-            uid,
-            seen,
-            alloc,
-            shelf,
-            &mut reply,
-            out,
-        ) {
-            Line::Went(next) => {
-                seen = next;
-                index += 1;
-            }
-            Line::Unread(sent) => return Next::after(sent),
-            Line::Short => {
-                let _ = reply.flush(out);
-                return Next::Close;
-            }
-            Line::Lost => return Next::Close,
+        index += 1;
+        if !picks(command.numbering, command.set, star, index, uid) {
+            continue;
+        }
+        if !is_live(uid, shelf) {
+            gone = true;
+            continue;
+        }
+        match push_message(command, index, uid, begun, alloc, shelf, &mut reply, out) {
+            Ok(()) => begun = true,
+            Err(stop) => return stop.end(&mut reply, out),
         }
     }
-    Next::after(say_end(command, seen.gone, &mut reply, out))
+    Next::after(say_end(command, gone, &mut reply, out))
 }
 
 /// Says the words that wait, and the end of the reply.

@@ -1,109 +1,62 @@
 //! The line of FETCH for one message.
 //! Reads the disk.
-ghost use Rattle.std.specs.Prelude.{◌≡◌, ℕ, List, [], ◌∷◌, true, false, is_some, is_ok, length, if◌then◌else◌};
-ghost use Rattle.std.specs.List.{filter};
+ghost use Rattle.std.specs.Prelude.{◌≡◌, ℕ, true, false, is_some, Ok, if◌then◌else◌};
 ghost use Rattle.arch_model.specs.Archives.{Archive, live, text_of};
 ghost use Rattle.arch_model.specs.Listings.{row_in};
 ghost use Rattle.arch_model.specs.OverShelf.{ShelfKept};
-ghost use Rattle.arch_model.specs.Shelves.{ReadCause, ReadsOnce, ReadsUpTo, ReadsIn};
+ghost use Rattle.arch_model.specs.Shelves.{ReadCause, ReadsUpTo};
 ghost use Rattle.line_door.specs.Acts.{at_sink};
 ghost use Rattle.wire_replies.specs.Waits.{Waits};
-ghost use Rattle.imap_messages.specs.Picking.{told_message, star_of};
-ghost use Rattle.imap_messages.specs.Fetching.{asked_fetch, reads_texts, texts_of, line_with};
-ghost use Rattle.imap_messages.specs.FetchActs.{GivesTextIf, MakesItems, IsLine, names};
+ghost use Rattle.shelf_doors.specs.Streams.{StreamsNext};
+ghost use Rattle.imap_messages.specs.Picking.{told_message};
+ghost use Rattle.imap_messages.specs.Tagged.{no_code};
+ghost use Rattle.imap_messages.specs.Fetching.{asked_fetch, shown_items, message_line, reads_texts, line_with};
+ghost use Rattle.imap_messages.specs.FetchActs.{GivesTextIf, MakesItems};
 
 use crate::fetch::FetchCommand;
 use crate::items::{items_of, need_text};
-use crate::numbering::picks;
 use crate::refusals::say_unread;
 use arch_base::{Bytes, NoMemory};
-use arch_model::{Shelf, TextRefusal, is_live};
+use arch_model::{Shelf, TextRefusal};
 use edge_io::{Sink, SinkFault};
+use shelf_doors::StreamStop;
 use std::alloc::Global;
 use wire_replies::{Phrase, Waiting};
 
-/// What was seen so far of the messages that a FETCH names.
-#[derive(Clone, Copy, Drop)]
-pub(crate) struct Seen {
-    /// A line was appended to the reply.
-    pub(crate) begun: bool,
-    /// One of them is gone.
-    pub(crate) gone: bool,
-}
-
-/// What became of one message.
-#[derive(Clone, Copy, Drop)]
-pub(crate) enum Line {
-    /// Its line was appended, or it has none.
-    Went(Seen),
-    /// Its line wasn't made, and nothing was said before. The word for that was taken or lost.
-    Unread(Result<(), SinkFault>),
-    /// Its line wasn't made, after others were said.
-    Short,
-    /// A write failed.
-    Lost,
-}
-
-/// Appends the line of a message to the reply, if the FETCH names it and it is live; or says why it
-/// isn't made, if it is the first. `star` is what `*` means.
+/// Appends the line of a live message to a reply that has begun or not, or says why it isn't made.
 pub(crate) fn push_message<S: Shelf, O: Sink>(
     command: &FetchCommand<'_>,
-    star: u32,
     sequence: u32,
     uid: u32,
-    seen: Seen,
+    begun: bool,
     alloc: Global,
     shelf: &mut S,
     reply: &mut Waiting,
     out: &mut O,
-) -> Line
+) -> Result<(), StreamStop>
     requires ready { S.ready shelf.old ≡ true }
-    ensures line { (a : Archive) (told : List ℕ) → S.holds shelf.old a
-        → star ≡ star_of command.now.numbering told
-        → IsLine a (asked_fetch command.now) told (told_message sequence uid) seen reply.old
-        (at_sink O.Sink out.old (S.faults shelf.old)) result reply.new
-        (at_sink O.Sink out.new (S.faults shelf.new)) }
+    requires live { (a : Archive) → S.holds shelf.old a
+        → is_some (text_of (live a.entries) uid) ≡ true }
+    ensures line { (a : Archive) → S.holds shelf.old a
+        → StreamsNext (no_code command.now.tag.now) (reads_texts (asked_fetch command.now))
+        (message_line a (shown_items command.now.numbering command.now.items.now)
+        (told_message sequence uid)) begun reply.old (at_sink O.Sink out.old (S.faults shelf.old))
+        result reply.new (at_sink O.Sink out.new (S.faults shelf.new)) }
     ensures shelf { ShelfKept S.Shelf shelf.old shelf.new }
-    ensures reads { (a : Archive) (told : List ℕ) → S.holds shelf.old a
-        → star ≡ star_of command.now.numbering told
-        → ReadsUpTo (texts_of a (asked_fetch command.now)
-        (filter (names (asked_fetch command.now) told) (told_message sequence uid ∷ [])))
+    ensures reads { ReadsUpTo (if reads_texts (asked_fetch command.now) then 1 else 0)
         (S.reads shelf.old) (S.reads shelf.new) }
-    ensures spared { (a : Archive) (told : List ℕ) → S.holds shelf.old a
-        → star ≡ star_of command.now.numbering told
-        → texts_of a (asked_fetch command.now)
-        (filter (names (asked_fetch command.now) told) (told_message sequence uid ∷ [])) ≡ 0
-        → S.faults shelf.new ≡ S.faults shelf.old }
+    ensures spared { (a : Archive) → S.holds shelf.old a
+        → reads_texts (asked_fetch command.now) ≡ false → S.faults shelf.new ≡ S.faults shelf.old }
     ensures sink { O.alike out.old out.new }
 {
-    if !picks(command.numbering, command.set, star, sequence, uid) {
-        return Line::Went(seen);
-    }
-    if !is_live(uid, shelf) {
-        return Line::Went(Seen {
-            begun: seen.begun,
-            gone: true,
-        });
-    }
     match made_items(command, uid, alloc, shelf) {
-        Ok(items) => given(seen.gone, push_line(sequence, items.as_slice(), reply, out)),
+        Ok(items) => StreamStop::after(push_line(sequence, items.as_slice(), reply, out)),
         Err(refusal) => {
-            if seen.begun {
-                return Line::Short;
+            if begun {
+                return Err(StreamStop::Short);
             }
-            Line::Unread(say_unread(command.tag, refusal, out))
+            Err(StreamStop::Unread(say_unread(command.tag, refusal, out)))
         }
-    }
-}
-
-/// Returns what became of a line that was appended.
-fn given(gone: bool, sent: Result<(), SinkFault>) -> Line
-    ensures { result ≡ (if is_ok sent
-        then Line.Went (record { begun = true; gone = gone }) else Line.Lost) }
-{
-    match sent {
-        Ok(()) => Line::Went(Seen { begun: true, gone }),
-        Err(SinkFault) => Line::Lost,
     }
 }
 

@@ -31,7 +31,7 @@ use arch_model::{Next, Shelf, TextRefusal};
 use edge_io::{Sink, SinkFault};
 use mail_forms::flat_first;
 use nntp_words::Range;
-use shelf_doors::{Streamed, live_after, live_within, say_unread};
+use shelf_doors::{StreamStop, live_after, live_within, say_unread};
 use std::alloc::Global;
 use wire_replies::{Phrase, Waiting, send};
 
@@ -147,16 +147,11 @@ fn say_range<S: Shelf, O: Sink>(
     let mut next = live_within(range.first, range.last, shelf);
     while let Some(number) = next {
         match push_field(name, number, begun, alloc, shelf, &mut reply, out) {
-            Streamed::Said => {
+            Ok(()) => {
                 begun = true;
                 next = live_after(number, range.last, shelf);
             }
-            Streamed::Unread(sent) => return Next::after(sent),
-            Streamed::Short => {
-                let _ = reply.flush(out);
-                return Next::Close;
-            }
-            Streamed::Lost => return Next::Close,
+            Err(stop) => return stop.end(&mut reply, out),
         }
     }
     let last = [Phrase::Words(start_if(!begun)), Phrase::Words(b".\r\n")];
@@ -172,12 +167,12 @@ fn push_field<S: Shelf, O: Sink>(
     shelf: &mut S,
     reply: &mut Waiting,
     out: &mut O,
-) -> Streamed
+) -> Result<(), StreamStop>
     requires ready { S.ready shelf.old ≡ true }
     requires live { (a : Archive) → S.holds shelf.old a
         → is_some (text_of (live a.entries) number) ≡ true }
     ensures value { (a : Archive) → S.holds shelf.old a
-        → StreamsNext refused_code (start_if_of (not begun)
+        → StreamsNext refused_code true (start_if_of (not begun)
         ++ field_line name.now number (text_of (live a.entries) number)) begun reply.old
         (at_sink O.Sink out.old (S.faults shelf.old)) result reply.new
         (at_sink O.Sink out.new (S.faults shelf.new)) }
@@ -186,12 +181,12 @@ fn push_field<S: Shelf, O: Sink>(
     ensures sink { O.alike out.old out.new }
 {
     match read_value(name, number, alloc, shelf) {
-        Ok(value) => Streamed::after(push_started(begun, number, value.as_slice(), reply, out)),
+        Ok(value) => StreamStop::after(push_started(begun, number, value.as_slice(), reply, out)),
         Err(refusal) => {
             if begun {
-                return Streamed::Short;
+                return Err(StreamStop::Short);
             }
-            Streamed::Unread(say_unread(REFUSED, refusal, out))
+            Err(StreamStop::Unread(say_unread(REFUSED, refusal, out)))
         }
     }
 }

@@ -15,9 +15,11 @@ use Rattle.std.proofs.lemmas.List.Sums.{sum_by-cons}
 use Rattle.mail_forms.specs.declared.row.Row.{Row}
 use Rattle.mail_reader.specs.Ids.{own_id}
 use Rattle.arch_model.specs.Archives.{Entry, is_id, text_of}
-use Rattle.arch_model.specs.Listings.{row_at, rows_of, row_in as row_shown, number_of_id, dated, date_cmp, by_date, number_beside, listing as listed}
+use Rattle.arch_model.specs.Listings.{row_at, rows_of, row_in as row_shown, number_of_id, date_at, dated, date_cmp, by_date, number_beside, listing as listed}
 use Rattle.arch_model.specs.Overviews.{id_or_nothing, id_fact}
 use Rattle.arch_model.specs.Rows.{row_of}
+use Rattle.arch_model.specs.Threading.{keys_of as keys_at}
+use Rattle.mail_date.specs.declared.moment.Moment.{Moment}
 use Rattle.arch_model.specs.Shelves.{is_between, live_between as live_among, IsGreatestLive}
 use Rattle.arch_model.specs.Standing.{IsLeastLive}
 use Rattle.arch_model.proofs.LiveEntries.{without as without_number}
@@ -28,6 +30,16 @@ use Rattle.overview_index.specs.declared.spot.Spot.{Spot}
 pub row-number : (n : ℕ) (text : List ℕ) (moment : ℕ) → (row_of n text moment).number ≡ n
 unfolding row_of
 row-number n text moment = refl
+
+-- The date of a row is its message's.
+pub row-date : (e : Entry) → (row_at e).date ≡ date_at e
+unfolding row_of
+row-date e = refl
+
+-- The ids of a row are its message's keys.
+pub row-keys : (e : Entry) → (row_at e).id ∷ (row_at e).refs ≡ keys_at e
+unfolding row_of
+row-keys e = refl
 
 -- Each of these messages has an own id.
 abbrev pub HasId : Entry → Type 0
@@ -129,7 +141,8 @@ insert_pair (y ∷ ys) x = step (spot_cmp x y) (insert_pair ys x) where
 
 -- The number in a row is its message's, here in place of that in a spot.
 spot-pair : (e : Entry) → pair_of (spot_of (row_at e)) ≡ dated e
-spot-pair e = ap (λ n. ((row_at e).date.secs, n)) (row-number e.number e.text e.moment)
+spot-pair e =
+    ap (λ n. ((row_at e).date.secs, n)) (row-number e.number e.text e.moment) ∙ ap (λ (date : Moment). (date.secs, e.number)) (row-date e)
 
 spots-dated : (es : List Entry) → map pair_of (spots (rows_of es)) ≡ by_date es
 spots-dated [] = refl

@@ -1,6 +1,8 @@
 -- A streamed reply under way, of any door: its words wait, and it stops when a text isn't read.
-use Rattle.std.proofs.Common.{◌≡◌, ◌+◌, ◌≤◌, ◌<◌, ◌⊎◌, ℕ, zero, suc, min, Bool, true, false, List, [], ◌++◌, length, take, Option, None, Result, Ok, Err, is_ok, inl, inr, refl, sym, ap, subst, ◌∙◌, append_assoc, length-append, arith}
+use Rattle.std.proofs.Common.{◌≡◌, ◌≤◌, ◌<◌, ◌⊎◌, ℕ, zero, suc, min, Bool, true, false, List, [], ◌++◌, length, take, Option, None, Result, Ok, Err, is_ok, inl, inr, refl, sym, ap, subst, ◌∙◌, append_assoc, length-append, arith}
 use Rattle.arch_base.specs.Counts.{Rose}
+use Rattle.arch_model.specs.Next.{continues}
+use Rattle.arch_model.specs.declared.next.Next.{Next}
 use Rattle.edge_io.specs.Taken.{plus}
 use Rattle.edge_io.specs.Phrases.{Says}
 use Rattle.edge_io.specs.declared.sink.SinkFault.{SinkFault}
@@ -9,10 +11,12 @@ use Rattle.line_door.specs.Acts.{ConnectionState, Said, Departure, Plain, Memory
 use Rattle.line_door.specs.Making.{says, streams}
 use Rattle.line_door.proofs.Acting.{acts-by_held, acts-by_says}
 use Rattle.line_door.proofs.Streaming.{acts-short}
-use Rattle.shelf_doors.specs.Refusals.{memory_line, disk_line, SaysUnread}
+use Rattle.shelf_doors.specs.Refusals.{memory_line, disk_line}
 use Rattle.wire_replies.proofs.Wording.{SoFar, sofar-none, sofar-lost, Waits-then, Waits-flushed}
 use Rattle.shelf_doors.proofs.Replying.{Waits-ended}
-use Rattle.shelf_doors.specs.Streams.{Given, Missed, StreamWays}
+use Rattle.shelf_doors.specs.Streams.{SaysWhy, Given, Missed, StreamsNext, EndsAt, StreamWays}
+use Rattle.shelf_doors.specs.declared.streamed.StreamStop.{StreamStop}
+use Rattle.shelf_doors.specs.declared.streamed.StreamStop.TheVariants as stop
 
 -- A write that failed after the reply had to stop: what was taken is a prefix of the reply.
 module _ {H A : Type 0} (words : Departure → Said H A) (s : Said H A) (front more : List ℕ) (i k : ConnectionState) (a : A) where
@@ -78,38 +82,35 @@ module _ (reply left : List ℕ) (begun : Bool) (i : ConnectionState) (waiting :
     kept = given.0 ∙ before.kept;
   }
 
-  -- There were no words.
-  pub under-same : (rest new : List ℕ) (now : Bool) (k : ConnectionState) → left ≡ rest → new ≡ waiting → k ≡ j → now ≡ begun → Under reply rest now i new k
-  under-same rest new now k is same still started = rw (← is, same, still, started) before
-
 -- A cause after the disk's count was kept.
 cause-on : (first before now last : ℕ) → before ≡ first → last ≡ now → Rose before now ⊎ (now ≡ before) → Rose first last ⊎ (last ≡ first)
 cause-on first before now last kept same (inl rose) = let more : Rose first last = omega (arith, kept, same, rose) in inl more
 cause-on first before now last kept same (inr stayed) = inr (same ∙ stayed ∙ kept)
 
+-- An act that says why something wasn't made.
+pub acts-why : {H A : Type 0} (words : Departure → Said H A) (a : A) (h : H) (code : List ℕ) (needs : Bool) (i k : ConnectionState) (sent : Result Unit SinkFault) → words Memory ≡ says a h (memory_line code) → (needs ≡ true → words Disk ≡ says a h (disk_line code)) → SaysWhy needs code i sent k
+    → Acts words i (held_if (is_ok sent) h) a k
+acts-why words a h code true i k sent memory disk (inl fault) = acts-by_held words Disk (says a h (disk_line code)) i k h a sent (disk refl) refl fault.0 fault.1 fault.2 refl
+acts-why words a h code true i k sent memory disk (inr out) = acts-by_held words Memory (says a h (memory_line code)) i k h a sent memory refl out.0 (omega (arith, out.0)) out.1 refl
+acts-why words a h code false i k sent memory disk out = acts-by_held words Memory (says a h (memory_line code)) i k h a sent memory refl out.0 (omega (arith, out.0)) out.1 refl
+
 module _ {H A : Type 0} (words : Departure → Said H A) (a : A) (h : H) (reply code : List ℕ) (reads : Bool) (ways : StreamWays words a h reply code reads) (left : List ℕ) (i : ConnectionState) (waiting : List ℕ) (j : ConnectionState) where
   -- A write failed at the next words.
-  pub under-lost : (begun : Bool) → Under reply left begun i waiting j → (piece rest new : List ℕ) (k : ConnectionState) (fault : SinkFault) → left ≡ piece ++ rest → Given piece waiting j (Err fault) new k → Acts words i None a k
+  under-lost : (begun : Bool) → Under reply left begun i waiting j → (piece rest new : List ℕ) (k : ConnectionState) (fault : SinkFault) → left ≡ piece ++ rest → Given piece waiting j (Err fault) new k → Acts words i None a k
   under-lost begun before piece rest new k fault is given =
       acts-by_says words Plain (streams a h reply) i k None a (Err fault) ways.by_rules (given.0 ∙ before.kept) (let kept = before.kept in omega (arith, given.0, kept))
       (sofar-lost reply [] i.out i.lost left waiting j.out j.lost before.so_far piece rest k.out k.lost fault is given.1) refl refl
 
   -- Before the first words, it was said why they weren't made.
-  pub under-unread : (begun : Bool) → Under reply left begun i waiting j → (k : ConnectionState) (sent : Result Unit SinkFault) → begun ≡ false → (Rose j.disk k.disk → reads ≡ true) → SaysUnread code j sent k → Acts words i (held_if (is_ok sent) h) a k
-  under-unread begun before k sent not_begun needed unread = by needed' (subst (λ (o : ConnectionState). SaysUnread code o sent k) still unread)
+  under-unread : (begun : Bool) → Under reply left begun i waiting j → (needs : Bool) (k : ConnectionState) (sent : Result Unit SinkFault) → begun ≡ false → (needs ≡ true → reads ≡ true) → SaysWhy needs code j sent k → Acts words i (held_if (is_ok sent) h) a k
+  under-unread begun before needs k sent not_begun needed why =
+      acts-why words a h code needs i k sent ways.no_memory (λ e. ways.no_disk (needed e)) (subst (λ (o : ConnectionState). SaysWhy needs code o sent k) still why)
     where
       still : j ≡ i
       still = let none = before.none not_begun in λ e. record { out = none.0 e; disk = before.kept e; lost = none.1 e }
 
-      needed' : Rose i.disk k.disk → reads ≡ true
-      needed' = subst (λ (n : ℕ). Rose n k.disk → reads ≡ true) before.kept needed
-
-      by : (Rose i.disk k.disk → reads ≡ true) → SaysUnread code i sent k → Acts words i (held_if (is_ok sent) h) a k
-      by needs (inl disk) = acts-by_held words Disk (says a h (disk_line code)) i k h a sent (ways.no_disk (needs disk.0)) refl disk.0 disk.1 disk.2 refl
-      by needs (inr memory) = acts-by_held words Memory (says a h (memory_line code)) i k h a sent ways.no_memory refl memory.0 (omega (arith, memory.0)) memory.1 refl
-
   -- After some words a text wasn't read, and what waits is written.
-  pub under-short : (begun : Bool) → Under reply left begun i waiting j → (new : List ℕ) (k m : ConnectionState) (sent : Result Unit SinkFault) → begun ≡ true → 0 < length left → Missed waiting j new k → m.disk ≡ k.disk → Says new k.out k.lost m.out m.lost sent → Acts words i None a m
+  under-short : (begun : Bool) → Under reply left begun i waiting j → (new : List ℕ) (k m : ConnectionState) (sent : Result Unit SinkFault) → begun ≡ true → 0 < length left → Missed waiting j new k → m.disk ≡ k.disk → Says new k.out k.lost m.out m.lost sent → Acts words i None a m
   under-short begun before new k m sent started more missed same said =
       let on : Says waiting j.out j.lost m.out m.lost sent = subst (λ (x : List ℕ). Says x j.out j.lost m.out m.lost sent) missed.0
       (subst (λ (o : Option (List ℕ)). Says new o j.lost m.out m.lost sent) missed.1
@@ -117,6 +118,13 @@ module _ {H A : Type 0} (words : Departure → Said H A) (a : A) (h : H) (reply 
       acts-stopped words (streams a h reply) before.so_far.front left i m a sent ways.after ways.by_rules refl before.so_far.joined (before.some started) more
       (cause-on i.disk j.disk k.disk m.disk before.kept same missed.4) (let later = missed.3 in omega (arith, before.kept, same))
       (Waits-flushed before.so_far.front [] waiting i.out j.out m.out i.lost j.lost m.lost tt sent before.so_far.waits on)
+
+  -- The reply ends where it stops at the next words.
+  pub under-stopped : (begun : Bool) → Under reply left begun i waiting j → (needs : Bool) (piece rest new : List ℕ) (stopped : StreamStop) (k m : ConnectionState) (next : Next) → left ≡ piece ++ rest → 0 < length left → (needs ≡ true → reads ≡ true)
+      → StreamsNext code needs piece begun waiting j (Err stopped) new k → EndsAt stopped new k next m → Acts words i (held_if (continues next) h) a m
+  under-stopped begun before needs piece rest new (stop.Unread sent) k m next is some needed why ends = rw (ends.0, ends.1) (under-unread begun before needs k sent why.0 needed why.2)
+  under-stopped begun before needs piece rest new stop.Short k m next is some needed short ends = rw ends.0 (under-short begun before new k m ends.2.0 short.0 some short.1 ends.1 ends.2.1)
+  under-stopped begun before needs piece rest new stop.Lost k m next is some needed lost ends = rw (ends.0, ends.1) (under-lost begun before piece rest new k lost.0 is lost.1)
 
   -- All words were appended, and the last were written.
   pub under-all : (begun : Bool) → Under reply left begun i waiting j → (k : ConnectionState) (sent : Result Unit SinkFault) → k.disk ≡ j.disk → Says (waiting ++ left) j.out j.lost k.out k.lost sent → Acts words i (held_if (is_ok sent) h) a k

@@ -38,11 +38,14 @@ unopened_line code (opening.Damaged file at) = code ++ (codes "damaged "
 unopened_line code opening.DiskFault = disk_line code
 unopened_line code opening.NoMemory = memory_line code
 
--- It was said why a text was not read: memory ran out, or the disk failed.
+-- It was said that memory ran out. The disk didn't fail.
+abbrev pub SaysMemory : List ℕ → ConnectionState → Result Unit SinkFault → ConnectionState → Type 0
+SaysMemory code i sent j = (j.disk ≡ i.disk) × Says (memory_line code) i.out i.lost j.out j.lost sent
+
+-- It was said why a text was not read: the disk failed, or memory ran out.
 abbrev pub SaysUnread : List ℕ → ConnectionState → Result Unit SinkFault → ConnectionState → Type 0
 SaysUnread code i sent j = (Rose i.disk j.disk × (i.disk ≤ j.disk)
-    × Says (disk_line code) i.out i.lost j.out j.lost sent)
-    ⊎ ((j.disk ≡ i.disk) × Says (memory_line code) i.out i.lost j.out j.lost sent)
+    × Says (disk_line code) i.out i.lost j.out j.lost sent) ⊎ SaysMemory code i sent j
 
 -- Why a connection is refused: the door's line for a server that is full, or why after its code.
 abbrev pub refusal_words : List ℕ → List ℕ → Refusal → List ℕ

@@ -1,13 +1,16 @@
 -- Private: a streamed reply over a shelf, whose words wait, and which stops when a text isn't read.
-use Rattle.std.specs.Prelude.{◌≡◌, ◌≤◌, ◌⊎◌, ℕ, Bool, true, false, List, Result, Ok, Err}
+use Rattle.std.specs.Prelude.{◌≡◌, ◌≤◌, ◌⊎◌, ℕ, Bool, true, false, List, Result, Ok, Err, is_ok}
 use Rattle.arch_base.specs.Counts.{Rose}
+use Rattle.arch_model.specs.Next.{continues}
+use Rattle.arch_model.specs.declared.next.Next.{Next}
+use Rattle.edge_io.specs.Phrases.{Says}
 use Rattle.edge_io.specs.declared.sink.SinkFault.{SinkFault}
 use Rattle.line_door.specs.Acts.{ConnectionState, Said, Departure, Plain, Memory, Disk}
 use Rattle.line_door.specs.Making.{says, streams}
 use Rattle.wire_replies.specs.Waits.{Waits}
-use Rattle.shelf_doors.specs.Refusals.{memory_line, disk_line, SaysUnread}
-use Rattle.shelf_doors.specs.declared.streamed.Streamed.{Streamed}
-use Rattle.shelf_doors.specs.declared.streamed.Streamed.TheVariants as part
+use Rattle.shelf_doors.specs.Refusals.{memory_line, disk_line, SaysMemory, SaysUnread}
+use Rattle.shelf_doors.specs.declared.streamed.StreamStop.{StreamStop}
+use Rattle.shelf_doors.specs.declared.streamed.StreamStop.TheVariants as stop
 
 -- An act is a streamed reply, after which the session goes on as `h`. Before its first word is said, it
 -- may say instead that memory ran out; or, if it reads texts, that the disk failed.
@@ -18,6 +21,12 @@ pub record StreamWays {H A : Type 0} (words : Departure → Said H A) (a : A) (h
   pub no_memory : words Memory ≡ says a h (memory_line code)
   pub no_disk : reads ≡ true → words Disk ≡ says a h (disk_line code)
   pub after : (way : Departure) → a ≡ (words way).after
+
+-- It was said why something wasn't made: its text was not read, if it is told from one, or memory ran
+-- out.
+abbrev pub SaysWhy : Bool → List ℕ → ConnectionState → Result Unit SinkFault → ConnectionState → Type 0
+SaysWhy true code i sent j = SaysUnread code i sent j
+SaysWhy false code i sent j = SaysMemory code i sent j
 
 -- Words were appended to those that wait, and no fault of the disk was met.
 abbrev pub Given : List ℕ → List ℕ → ConnectionState → Result Unit SinkFault → List ℕ
@@ -30,13 +39,21 @@ abbrev pub Missed : List ℕ → ConnectionState → List ℕ → ConnectionStat
 Missed old i new j = (new ≡ old) × (j.out ≡ i.out) × (j.lost ≡ i.lost) × (i.disk ≤ j.disk)
     × (Rose i.disk j.disk ⊎ (j.disk ≡ i.disk))
 
--- What became of the next part of a reply: it was appended to the words that wait; or its text was not
--- read, which was said after a door's code if nothing was said before; or a write failed.
-abbrev pub StreamsNext : List ℕ → List ℕ → Bool → List ℕ → ConnectionState → Streamed → List ℕ
-    → ConnectionState → Type 0
-StreamsNext code words begun old i part.Said new j = Given words old i (Ok tt) new j
-StreamsNext code words begun old i (part.Unread sent) new j =
-    (begun ≡ false) × (new ≡ old) × SaysUnread code i sent j
-StreamsNext code words begun old i part.Short new j = (begun ≡ true) × Missed old i new j
-StreamsNext code words begun old i part.Lost new j =
+-- What became of the next part of a reply: it was appended to the words that wait; or it wasn't made,
+-- which was said after a door's code if nothing was said before; or a write failed.
+abbrev pub StreamsNext : List ℕ → Bool → List ℕ → Bool → List ℕ → ConnectionState
+    → Result Unit StreamStop → List ℕ → ConnectionState → Type 0
+StreamsNext code reads words begun old i (Ok done) new j = Given words old i (Ok tt) new j
+StreamsNext code reads words begun old i (Err (stop.Unread sent)) new j =
+    (begun ≡ false) × (new ≡ old) × SaysWhy reads code i sent j
+StreamsNext code reads words begun old i (Err stop.Short) new j = (begun ≡ true) × Missed old i new j
+StreamsNext code reads words begun old i (Err stop.Lost) new j =
     (fault : SinkFault) × Given words old i (Err fault) new j
+
+-- How the reply ends where it stops: the session continues after a word that was said in its place, and
+-- else it is closed. What waits is written where other words were said.
+abbrev pub EndsAt : StreamStop → List ℕ → ConnectionState → Next → ConnectionState → Type 0
+EndsAt (stop.Unread sent) waiting i next j = (continues next ≡ is_ok sent) × (j ≡ i)
+EndsAt stop.Short waiting i next j = (continues next ≡ false) × (j.disk ≡ i.disk)
+    × ((sent : Result Unit SinkFault) × Says waiting i.out i.lost j.out j.lost sent)
+EndsAt stop.Lost waiting i next j = (continues next ≡ false) × (j ≡ i)

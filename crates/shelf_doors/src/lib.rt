@@ -1,7 +1,7 @@
 //! What the doors of mail protocols share over a shelf: mailboxes, live numbers, and replies.
 //! Pure.
 //!
-//! Here are also the word for a part of a streamed reply, and the refusals.
+//! Here are also where a streamed reply stops, and the refusals.
 #![tactic(auto)]
 
 mod mailbox;
@@ -13,5 +13,5 @@ mod turn;
 pub use mailbox::{MailboxRange, mailbox_named, mailbox_range};
 pub use numbers::{live_after, live_before, live_within};
 pub use refusals::{say_memory, say_refusal, say_unopened, say_unread};
-pub use streamed::Streamed;
+pub use streamed::StreamStop;
 pub use turn::went;

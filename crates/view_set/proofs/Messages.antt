@@ -7,8 +7,9 @@ use Rattle.std.specs.Map.{lookup}
 use Rattle.std.proofs.Common.{◌∙◌, sym, ap, cond}
 use Rattle.std.proofs.lemmas.Bool.{false≢true, eqb-true, eq-eqb}
 use Rattle.arch_model.specs.Archives.{Entry}
-use Rattle.arch_model.specs.Listings.{rows_of}
+use Rattle.arch_model.specs.Listings.{row_at, rows_of}
 use Rattle.arch_model.specs.Threading.{thread_in as threaded, keyed as keyed_messages, keys_in, keys_of as keys_at}
+use Rattle.overview_index.proofs.Messages.{row-keys}
 use Rattle.thread_model.specs.Threads.{KeyedRow as Keyed, thread}
 use Rattle.thread_model.proofs.Entries.{at-eqb}
 use Rattle.thread_index.specs.Index.{keys_of_row}
@@ -16,7 +17,9 @@ use Rattle.view_set.specs.Threads.{keyed, thread_in}
 
 pub keyed-are : (es : List Entry) → keyed (rows_of es) ≡ keyed_messages es
 keyed-are [] = refl
-keyed-are (e ∷ es) = ap (λ (rs : List Keyed). (e.number, keys_at e) ∷ rs) (keyed-are es)
+keyed-are (e ∷ es) =
+    ap (λ (rs : List Keyed). (e.number, (row_at e).id ∷ (row_at e).refs) ∷ rs) (keyed-are es)
+    ∙ ap (λ (keys : List (List ℕ)). (e.number, keys) ∷ keyed_messages es) (row-keys e)
 
 -- Equality of numbers goes both ways.
 turned : (n m : ℕ) → (n == m) ≡ (m == n)

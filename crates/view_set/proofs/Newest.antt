@@ -20,7 +20,7 @@ use Rattle.thread_model.proofs.Entries.{true-at, false-at}
 use Rattle.word_index.specs.Rows.{WordRow as Worded, row_at as row_in_words, matching}
 use Rattle.view_set.specs.Viewed.{Viewed, worded_by, worded_of, views_of, searched, IsFrontFound}
 use Rattle.view_set.proofs.Filtering.{filtered}
-use Rattle.view_set.proofs.Searching.{searched-is}
+use Rattle.view_set.proofs.Searching.{row-match, searched-is}
 use Rattle.view_set.proofs.Walking.{live-ascends}
 
 -- Some further rows of the listing were looked at.
@@ -50,7 +50,7 @@ matching-at query (e ∷ es) n = step (e.number == n) refl (matching-at query es
     chosen t = option_map_or (λ (row : Worded). matches query row.words row.day) (cond t (Some (worded_by (row_at e) (mail_words e.text))) (row_in_words (worded_of es) n)) false
 
     step : (t : Bool) → (e.number == n) ≡ t → matching query (worded_of es) n ≡ matches_at query es n → matching query (worded_of (e ∷ es)) n ≡ (if t then is_match query e else matches_at query es n)
-    step true is ih = ap chosen (true-at n e.number (sym (eqb-true e.number n is)))
+    step true is ih = ap chosen (true-at n e.number (sym (eqb-true e.number n is))) ∙ row-match query e
     step false is ih = ap chosen (false-at n e.number (λ same. eqb-false e.number n is (sym same))) ∙ ih
 
 -- So a page of those is one of the search, where the rows are those of live messages.

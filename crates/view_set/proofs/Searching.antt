@@ -6,6 +6,7 @@ use Rattle.std.specs.BTreeMap.{is_at}
 use Rattle.std.proofs.Common.{◌∙◌, ap, cond, arith}
 use Rattle.mail_forms.specs.declared.row.Row.{Row}
 use Rattle.mime_parts.specs.Words.{mail_words}
+use Rattle.query_lang.specs.Dates.{utc_day}
 use Rattle.query_lang.specs.Matching.{matches}
 use Rattle.query_lang.specs.declared.query.Query.{Query}
 use Rattle.arch_model.specs.Archives.{Archive, Entry, live}
@@ -13,7 +14,7 @@ use Rattle.arch_model.specs.Listings.{row_at, rows_of}
 use Rattle.arch_model.specs.Searching.{is_match, search}
 use Rattle.arch_model.specs.Validity.{IsArchive}
 use Rattle.overview_index.specs.Listings.{row_in, under, rows_numbered, listing}
-use Rattle.overview_index.proofs.Messages.{Ascends, listing-is}
+use Rattle.overview_index.proofs.Messages.{Ascends, listing-is, row-date}
 use Rattle.thread_model.proofs.Entries.{true-at, false-at}
 use Rattle.word_index.specs.Rows.{WordRow as Worded, found}
 use Rattle.view_set.specs.Viewed.{worded_by, worded_of, views_of, searched}
@@ -29,10 +30,15 @@ matched_step : (t : Bool) (e : Entry) (word : Worded) (words : List (ℕ × Word
 matched_step true e word words es is = ap (λ (ns : List ℕ). e.number ∷ ns) is
 matched_step false e word words es is = is
 
+-- A row matches where its message does.
+pub row-match : (query : Query) (e : Entry) → matches query (mail_words e.text) (utc_day (row_at e).date) ≡ is_match query e
+row-match query e = ap (λ date. matches query (mail_words e.text) (utc_day date)) (row-date e)
+
 found-is : (query : Query) (es : List Entry) → found query (worded_of es) ≡ numbers_of (filter (is_match query) es)
 found-is query [] = refl
 found-is query (e ∷ es) =
-    matched_step (is_match query e) e (worded_by (row_at e) (mail_words e.text)) (filter (λ (w : ℕ × Worded). matches query w.1.words w.1.day) (worded_of es)) (filter (is_match query) es) (found-is query es)
+    matched_step (matches query (mail_words e.text) (utc_day (row_at e).date)) e (worded_by (row_at e) (mail_words e.text)) (filter (λ (w : ℕ × Worded). matches query w.1.words w.1.day) (worded_of es)) (filter (is_match query) es) (found-is query es)
+    ∙ ap (λ (t : Bool). numbers_of (if t then e ∷ filter (is_match query) es else filter (is_match query) es)) (row-match query e)
 
 -- Each message is found by its number.
 abbrev IsFound : List (ℕ × Row) → Entry → Type 0

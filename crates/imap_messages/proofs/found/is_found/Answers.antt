@@ -1,4 +1,4 @@
-use Rattle.std.proofs.Common.{◌≡◌, ◌∙◌, Bool, map, sym, subst}
+use Rattle.std.proofs.Common.{◌∙◌, Bool, map, sym, subst}
 use Rattle.imap_syntax.specs.Trees.{tree_of}
 use Rattle.imap_messages.specs.Seeking.{is_sought}
 use Rattle.imap_messages.specs.SearchActs.{message_at, TellsMatch}

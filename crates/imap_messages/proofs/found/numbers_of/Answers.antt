@@ -1,4 +1,4 @@
-use Rattle.std.proofs.Common.{◌≡◌, ◌+◌, ◌∙◌, ℕ, List, get_or, refl, sym, ap, subst, rules, arith}
+use Rattle.std.proofs.Common.{◌∙◌, ℕ, List, get_or, refl, ap, subst, rules, arith}
 use Rattle.arch_model.specs.Shelves.{ReadsAhead}
 use Rattle.arch_model.proofs.Shelving.{stays-joined}
 use Rattle.imap_messages.specs.Picking.{messages_from, greatest_uid}

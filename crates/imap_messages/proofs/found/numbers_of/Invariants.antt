@@ -1,4 +1,4 @@
-use Rattle.std.proofs.Common.{◌≡◌, ◌≤◌, ◌+◌, ◌-◌, ◌++◌, ℕ, length, map, drop}
+use Rattle.std.proofs.Common.{◌≡◌, ◌≤◌, ◌+◌, ◌-◌, ◌++◌, length, map, drop}
 use Rattle.std.specs.List.{filter}
 use Rattle.arch_model.specs.Archives.{Archive}
 use Rattle.arch_model.specs.Shelves.{ShelfStays, ReadsAhead}

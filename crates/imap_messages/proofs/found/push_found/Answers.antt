@@ -1,4 +1,4 @@
-use Rattle.std.proofs.Common.{◌≡◌, ◌∙◌, ℕ, [], ◌∷◌, nat_lt, sym, subst}
+use Rattle.std.proofs.Common.{◌∙◌, ℕ, [], ◌∷◌, nat_lt, sym, subst}
 use Rattle.arch_model.specs.Shelves.{ReadCause, ReadsUpTo}
 use Rattle.imap_messages.specs.Seeking.{asked_search, looks_of}
 use Rattle.imap_messages.specs.SearchActs.{message_at}

@@ -1,12 +1,11 @@
 use Rattle.std.proofs.Common.{◌≡◌, ◌∙◌, Bool, [], IfOk, is_some, map, true, refl, sym, ap, subst, option_copied}
 use Rattle.std.specs.List.{list_all}
 use Rattle.arch_model.specs.Archives.{live, text_of}
-use Rattle.arch_model.specs.Listings.{row_in}
 use Rattle.imap_syntax.specs.Trees.{tree_of}
 use Rattle.imap_items.specs.Keys.{tree_matches}
 use Rattle.imap_messages.specs.Seeking.{row_keys}
 use Rattle.imap_messages.specs.SearchActs.{text_at}
-use Rattle.imap_messages.proofs.Named.{row-live}
+use Rattle.imap_messages.proofs.Messages.{row-live}
 use Rattle.imap_messages.proofs.Seekings.{rows-found, if-live}
 use Rattle.imap_messages.proofs.found.row_matches.Goals as goal
 

@@ -1,7 +1,4 @@
-use Rattle.std.proofs.Common.{◌+◌, drop, get_or}
-use Rattle.std.specs.List.{flat_map}
 use Rattle.wire_replies.proofs.Wording.{sofar-more, sofar-lost}
-use Rattle.imap_messages.specs.Seeking.{spaced_number}
 use Rattle.imap_messages.proofs.Seekings.{numbers-left}
 use Rattle.imap_messages.proofs.search.push_numbers.Goals as goal
 

@@ -1,10 +1,10 @@
-use Rattle.std.proofs.Common.{◌≡◌, ◌∙◌, ℕ, List, map, refl, sym, ap, subst}
+use Rattle.std.proofs.Common.{◌∙◌, ℕ, List, map, sym, ap, subst}
 use Rattle.edge_io.specs.Phrases.{Says}
 use Rattle.line_door.specs.Acts.{at_sink}
 use Rattle.imap_syntax.specs.Trees.{tree_of, trees}
 use Rattle.imap_messages.specs.Wanted.{trees_are_told}
 use Rattle.imap_messages.specs.Seeking.{asked_search, numbers_words}
-use Rattle.imap_messages.proofs.Seekings.{search-found, search-why, search-spared}
+use Rattle.imap_messages.proofs.Seekings.{search-found, search-spared}
 use Rattle.imap_messages.proofs.search.say_answer.Goals as goal
 
 pub returns-in-Ok-clause-acts : goal.returns-in-Ok-clause-acts

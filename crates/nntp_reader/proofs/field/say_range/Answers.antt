@@ -3,7 +3,7 @@ use Rattle.arch_model.specs.Archives.{live, text_of}
 use Rattle.arch_model.proofs.Shelving.{stays-same, stays-joined}
 use Rattle.line_door.specs.Readers.{as_said, line_reader}
 use Rattle.shelf_doors.proofs.Reading.{ahead-none, ahead-all}
-use Rattle.shelf_doors.proofs.Streaming.{under-start, under-more, under-lost, under-unread, under-short, under-all}
+use Rattle.shelf_doors.proofs.Streaming.{under-start, under-more, under-stopped, under-all}
 use Rattle.shelf_doors.proofs.Walking.{ahead-number, last-number}
 use Rattle.nntp_reader.specs.Commands.{Headers, Field, Within}
 use Rattle.nntp_reader.specs.Headers.{field_at, fields_block}
@@ -37,7 +37,7 @@ loop-next-preserved g c = record {
         c.live_after-next.ensures.number a (c.push_field.ensures.shelf.kept a now),
         under-more _ _ _ _ _ _ before.2 (start_if (not c.loop-next.begun) ++ field_at c.args.name.now (live a.entries) c.in-Some.number) _ c.push_field.new.reply _
             (left-value c.args.name.now (live a.entries) c.loop-next.begun before.0 c.args.range.last c.in-Some.number (fields-rest c.args.name.now (live a.entries) before.0 c.args.range.last c.in-Some.number (sym before.1 ∙ c.in-Some.is)))
-            (value-some c.args.name.now (live a.entries) c.loop-next.begun c.in-Some.number (subst (λ o. IfSome o (λ n. is_some (text_of (live a.entries) n) ≡ true)) c.in-Some.is (c.loop-next.invariant.alive a now))) (c.in-Said.ensures.value a now),
+            (value-some c.args.name.now (live a.entries) c.loop-next.begun c.in-Some.number (subst (λ o. IfSome o (λ n. is_some (text_of (live a.entries) n) ≡ true)) c.in-Some.is (c.loop-next.invariant.alive a now))) (c.in-Ok.ensures.value a now),
       );
   reads = λ a held.
       let before = c.loop-next.invariant.reads a held in
@@ -49,49 +49,24 @@ loop-next-preserved g c = record {
   sink = g.met.O.Sink.alike_joined _ _ _ c.loop-next.invariant.sink c.push_field.ensures.sink;
 }
 
-pub returns-in-Unread-clause-acts : goal.returns-in-Unread-clause-acts
-returns-in-Unread-clause-acts g c = λ moment a rest n held start.
+pub returns-in-Err-clause-acts : goal.returns-in-Err-clause-acts
+returns-in-Err-clause-acts g c = λ moment a rest n held start.
     let before = c.loop-next.invariant.so_far a held in
-    let unread = c.in-Unread.ensures.value a (c.loop-next.invariant.shelf.kept a held) in
-    rw c.after.ensures
-    (under-unread (λ way. as_said rest (in_way moment a c.args.group (Headers (Field c.args.name.now) (Within c.args.range)) way)) a (line_reader c.args.group rest) _ refused_code true
-    (range-streamed moment a c.args.group c.args.name.now c.args.range rest n start) _ _ _ _ c.loop-next.begun before.2 _ c.in-Unread.sent unread.0 (λ rose. refl) unread.2)
-
-pub returns-in-Short-clause-acts : goal.returns-in-Short-clause-acts
-returns-in-Short-clause-acts g c = λ moment a rest n held start.
-    let before = c.loop-next.invariant.so_far a held in
-    let short = c.in-Short.ensures.value a (c.loop-next.invariant.shelf.kept a held) in
-    under-short (λ way. as_said rest (in_way moment a c.args.group (Headers (Field c.args.name.now) (Within c.args.range)) way)) a (line_reader c.args.group rest) _ refused_code true
-    (range-streamed moment a c.args.group c.args.name.now c.args.range rest n start) _ _ _ _ c.loop-next.begun before.2 c.push_field.new.reply _ _ c.flush.result short.0 (left-some c.args.name.now (live a.entries) c.loop-next.begun before.0 c.args.range.last) short.1 refl c.flush.ensures.said
-
-pub returns-in-Lost-clause-acts : goal.returns-in-Lost-clause-acts
-returns-in-Lost-clause-acts g c = λ moment a rest n held start.
-    let before = c.loop-next.invariant.so_far a held in
-    let lost = c.in-Lost.ensures.value a (c.loop-next.invariant.shelf.kept a held) in
-    under-lost (λ way. as_said rest (in_way moment a c.args.group (Headers (Field c.args.name.now) (Within c.args.range)) way)) a (line_reader c.args.group rest) _ refused_code true
-    (range-streamed moment a c.args.group c.args.name.now c.args.range rest n start) _ _ _ _ c.loop-next.begun before.2 (start_if (not c.loop-next.begun) ++ field_at c.args.name.now (live a.entries) c.in-Some.number) _ c.push_field.new.reply _ lost.0
-    (left-value c.args.name.now (live a.entries) c.loop-next.begun before.0 c.args.range.last c.in-Some.number (fields-rest c.args.name.now (live a.entries) before.0 c.args.range.last c.in-Some.number (sym before.1 ∙ c.in-Some.is))) lost.1
+    under-stopped (λ way. as_said rest (in_way moment a c.args.group (Headers (Field c.args.name.now) (Within c.args.range)) way)) a (line_reader c.args.group rest) _ refused_code true
+    (range-streamed moment a c.args.group c.args.name.now c.args.range rest n start) _ _ _ _ c.loop-next.begun before.2 true (start_if (not c.loop-next.begun) ++ field_at c.args.name.now (live a.entries) c.in-Some.number) _ c.push_field.new.reply c.in-Err.stop _ _ c.end.result
+    (left-value c.args.name.now (live a.entries) c.loop-next.begun before.0 c.args.range.last c.in-Some.number (fields-rest c.args.name.now (live a.entries) before.0 c.args.range.last c.in-Some.number (sym before.1 ∙ c.in-Some.is)))
+    (left-some c.args.name.now (live a.entries) c.loop-next.begun before.0 c.args.range.last) (λ e. e) (c.in-Err.ensures.value a (c.loop-next.invariant.shelf.kept a held)) (c.end.ensures.ends (g.S.Shelf.faults c.push_field.new.shelf))
 
 pub returns-clause-acts : goal.returns-clause-acts
 returns-clause-acts g c = λ moment a rest n held start.
     let before = c.loop-next.invariant.so_far a held in
     let none = left-none c.args.name.now (live a.entries) c.loop-next.begun before.0 c.args.range.last (sym before.1 ∙ c.in_default.is) in
-    rw c.after-2.ensures
+    rw c.after.ensures
     (under-all (λ way. as_said rest (in_way moment a c.args.group (Headers (Field c.args.name.now) (Within c.args.range)) way)) a (line_reader c.args.group rest) _ refused_code true
     (range-streamed moment a c.args.group c.args.name.now c.args.range rest n start) _ _ _ _ c.loop-next.begun before.2 _ c.finish.result refl (rw (none, ← c.start_if.ensures) c.finish.ensures.said))
 
-pub returns-in-Unread-clause-reads : goal.returns-in-Unread-clause-reads
-returns-in-Unread-clause-reads g c = λ a held.
-    let before = c.loop-next.invariant.reads a held in
-    last-number (live a.entries) _ before.0 c.args.range.last c.in-Some.number _ _ _ (sym before.1 ∙ c.in-Some.is) before.2 c.push_field.ensures.reads
-
-pub returns-in-Short-clause-reads : goal.returns-in-Short-clause-reads
-returns-in-Short-clause-reads g c = λ a held.
-    let before = c.loop-next.invariant.reads a held in
-    last-number (live a.entries) _ before.0 c.args.range.last c.in-Some.number _ _ _ (sym before.1 ∙ c.in-Some.is) before.2 c.push_field.ensures.reads
-
-pub returns-in-Lost-clause-reads : goal.returns-in-Lost-clause-reads
-returns-in-Lost-clause-reads g c = λ a held.
+pub returns-in-Err-clause-reads : goal.returns-in-Err-clause-reads
+returns-in-Err-clause-reads g c = λ a held.
     let before = c.loop-next.invariant.reads a held in
     last-number (live a.entries) _ before.0 c.args.range.last c.in-Some.number _ _ _ (sym before.1 ∙ c.in-Some.is) before.2 c.push_field.ensures.reads
 
