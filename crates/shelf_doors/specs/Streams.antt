@@ -1,4 +1,4 @@
--- Private: a streamed reply over a shelf, whose words wait, and which stops when a text isn't read.
+-- A streamed reply over a shelf, whose words wait, and which stops when a text isn't read.
 use Rattle.std.specs.Prelude.{◌≡◌, ◌≤◌, ◌⊎◌, ℕ, Bool, true, false, List, Result, Ok, Err, is_ok}
 use Rattle.arch_base.specs.Counts.{Rose}
 use Rattle.arch_model.specs.Next.{continues}
