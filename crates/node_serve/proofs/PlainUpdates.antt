@@ -3,20 +3,12 @@ use Rattle.std.proofs.Common.{◌≡◌, ◌⊎◌, ◌≤◌, ◌+◌, ◌-◌,
 use Rattle.std.proofs.lemmas.Bool.Decides.{nat_tests}
 use Rattle.edge_io.specs.Hosts.{OthersKept}
 use Rattle.edge_io.specs.Taken.{plus}
-use Rattle.line_door.specs.Acts.{ConnectionState, Said, Departure, Plain, Memory, Disk, Newer, PlainActs, Acts, StopsShort, Sent}
-use Rattle.line_door.specs.Plain.{silent}
-use Rattle.arch_model.specs.Archives.{Archive}
-use Rattle.arch_model.specs.Standing.{LastKnown, standing}
-use Rattle.imap_framer.specs.Doors.{beside}
-use Rattle.imap_session.specs.Door.{ImapClient}
-use Rattle.imap_session.specs.Idling as idling
-use Rattle.imap_states.specs.Replies.{update_said}
-use Rattle.imap_states.specs.States as states
+use Rattle.line_door.specs.Acts.{ConnectionState, Said, Departure, Plain, PlainActs, Acts}
+use Rattle.arch_model.specs.Standing.{LastKnown}
 use Rattle.node_serve.specs.Plain.{set_at, after_said, update_if, update_of, plain_update, plain_updates, opened_plainly, plain_updated_if, plain_updated, CountsSessions, PlainActAt, PlainUpdateBy, PlainUpdateAt, PlainUpdatedIf, PlainUpdatedUnless}
 use Rattle.node_serve.specs.Updates.{connection_limit, idles, idles_if, any_idles, EachBelow, IfIdles, said_update, UpdateAct, UpdateBy, UpdateAt, EachIf, UpdatedThrough, UpdatedIf, UpdatedUnless}
 use Rattle.node_serve.specs.World.{NodeState, outer, Around, outside_at, one_if, closed_if, closed_at_if, open_below}
 use Rattle.node_serve.specs.declared.session.Session.{Session}
-use Rattle.node_serve.specs.declared.session.Session.TheVariants as session
 use Rattle.node_serve.proofs.Counting.{update-cases, counted-one, counted-same}
 
 -- A plain act is an act by the rules.
