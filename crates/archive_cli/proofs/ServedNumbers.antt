@@ -100,10 +100,10 @@ module _ (itself : FollowsItself) (commands : CommandFollows) where
   -- The updates after an event, and what comes after them.
   idle-follows : (idle : Bool) (w : NodeState) (reopened : List LastKnown) (v : NodeState) (rest : List LastKnown) → UpdatedIf idle w reopened v → DoubtFollows w.standing → FollowOn v.standing.archive rest → FollowOn w.standing.archive (reopened ++ rest)
   idle-follows true w reopened v rest updated kept later =
-      let found = reopened-later Follows itself 0 (λ a command. commands a command 0) updated.opened w updated.between updated.reopening_is kept in
-      let same = each-stands updated.opened updated.between v updated.each in
+      let found = reopened-later Follows itself 0 (λ a command. commands a command 0) updated.opened w updated.refreshed updated.reopening_is kept in
+      let same = each-stands updated.opened updated.refreshed v updated.each in
       subst (λ (ps : List LastKnown). FollowOn w.standing.archive (ps ++ rest)) (sym updated.reopened_is)
-      (follows-in w.standing.archive updated.between.standing found, subst (λ (s : LastKnown). FollowOn s.archive rest) same later)
+      (follows-in w.standing.archive updated.refreshed.standing found, subst (λ (s : LastKnown). FollowOn s.archive rest) same later)
   idle-follows false w reopened v rest updated kept later = same-follows w v reopened rest (ap (λ (x : NodeState). x.standing) updated.0) updated.1 later
 
   updated-follows : (stops : Bool) (w : NodeState) (reopened : List LastKnown) (v : NodeState) (rest : List LastKnown) → UpdatedUnless stops w reopened v → DoubtFollows w.standing → FollowOn v.standing.archive rest → FollowOn w.standing.archive (reopened ++ rest)
@@ -112,8 +112,8 @@ module _ (itself : FollowsItself) (commands : CommandFollows) where
 
   idle-kept : (idle : Bool) (w : NodeState) (reopened : List LastKnown) (v : NodeState) → UpdatedIf idle w reopened v → DoubtFollows w.standing → DoubtFollows v.standing
   idle-kept true w reopened v updated kept =
-      let found = reopened-later Follows itself 0 (λ a command. commands a command 0) updated.opened w updated.between updated.reopening_is kept in
-      same-kept updated.between v (each-stands updated.opened updated.between v updated.each) found.in_doubt
+      let found = reopened-later Follows itself 0 (λ a command. commands a command 0) updated.opened w updated.refreshed updated.reopening_is kept in
+      same-kept updated.refreshed v (each-stands updated.opened updated.refreshed v updated.each) found.in_doubt
   idle-kept false w reopened v updated kept = same-kept w v (ap (λ (x : NodeState). x.standing) updated.0) kept
 
   updated-kept : (stops : Bool) (w : NodeState) (reopened : List LastKnown) (v : NodeState) → UpdatedUnless stops w reopened v → DoubtFollows w.standing → DoubtFollows v.standing

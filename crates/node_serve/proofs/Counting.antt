@@ -136,7 +136,7 @@ updated-counts n true w reopened v updated old = equal-counts n w v updated.0 ol
 updated-counts n false w reopened v updated old = by (any_idles w.session) updated
   where
     through : UpdatedThrough w reopened v → CountedBelow n v
-    through u = all-counts n u.opened u.between v u.each (same-counts n w u.between (λ d. ap (λ (x : NodeState). x.session d) u.reopening_is.world_is) (ap (λ (x : NodeState). x.count) u.reopening_is.world_is) old)
+    through u = all-counts n u.opened u.refreshed v u.each (same-counts n w u.refreshed (λ d. ap (λ (x : NodeState). x.session d) u.reopening_is.world_is) (ap (λ (x : NodeState). x.count) u.reopening_is.world_is) old)
 
     by : (b : Bool) → UpdatedIf b w reopened v → CountedBelow n v
     by true u = through u

@@ -1,4 +1,4 @@
--- What clients of IMAP know suits each archive that a reopening before a piece may find.
+-- What clients of IMAP know suits each archive that a reopening may find.
 use Rattle.std.proofs.Common.{◌≡◌, ℕ, List, Option, Some, None, refl, sym, subst, inl, inr}
 use Rattle.line_door.specs.Acts.{ConnectionState, Departure, Plain, Memory, Disk, Newer, Acts, Sent}
 use Rattle.line_door.proofs.Acting.{stops-closed}
@@ -21,14 +21,19 @@ later-suits a b (session.Http bytes) keeps suits = tt
 later-suits a b (session.Lmtp guest) keeps suits = tt
 later-suits a b (session.Imap client) keeps suits = later_suits a b client.0 keeps.0 keeps.1 suits
 
--- So it suits the archive that stands, and the one in doubt.
-pub found-suits : (s : LastKnown) (start : Session) → SessionSuits s.archive start → ((b : Archive) → s.in_doubt ≡ Some b → KeepsGone s.archive b) → (a : Archive) → IsFound s a → SessionSuits a start
-found-suits s start suits keeps a (inl older) = subst (λ (x : Archive). SessionSuits x start) (sym older) suits
-found-suits s start suits keeps a (inr in_doubt) = later-suits s.archive a start (keeps a in_doubt) suits
+-- The same of the session of a connection, if it has one.
+pub later-if : (a b : Archive) (o : Option Session) → KeepsGone a b → SessionSuitsIf a o → SessionSuitsIf b o
+later-if a b None keeps suits = tt
+later-if a b (Some start) keeps suits = later-suits a b start keeps suits
 
--- The same of the session of a connection in a world that suits its clients.
+-- So the archive that stands in a world, and the one in doubt, suit its clients.
+pub found-suits : (w : NodeState) (a : Archive) → IsFound w.standing a → ClientsSuit w → (c : ℕ) → SessionSuitsIf a (w.session c)
+found-suits w a (inl older) suits c = subst (λ (x : Archive). SessionSuitsIf x (w.session c)) (sym older) (suits.clients c)
+found-suits w a (inr in_doubt) suits c = later-if w.standing.archive a (w.session c) (suits.in_doubt a in_doubt) (suits.clients c)
+
+-- The same of one session.
 pub client-suits : (w : NodeState) (c : ℕ) (start : Session) → ClientsSuit w → w.session c ≡ Some start → (a : Archive) → IsFound w.standing a → SessionSuits a start
-client-suits w c start suit here a found = found-suits w.standing start (subst (λ (x : Option Session). SessionSuitsIf w.standing.archive x) here (suit.clients c)) suit.in_doubt a found
+client-suits w c start suits here a found = subst (λ (x : Option Session). SessionSuitsIf a x) here (found-suits w a found suits c)
 
 -- The newer archive is one that a reopening may find.
 newer-found : (a : Archive) (d : Option Archive) → IsFound (standing a d) (newer_of a d)

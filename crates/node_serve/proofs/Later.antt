@@ -127,7 +127,7 @@ update-after s (session.Imap client) way = ap (λ (a : Archive). standing a s.in
 
 -- Updates leave what stands.
 
-update-stands : (c : ℕ) (w v : NodeState) (o : Option Session) → UpdateBy o c w v → v.standing ≡ w.standing
+pub update-stands : (c : ℕ) (w v : NodeState) (o : Option Session) → UpdateBy o c w v → v.standing ≡ w.standing
 update-stands c w v None same = ap (λ (x : NodeState). x.standing) same
 update-stands c w v (Some start) updated = by (updates.idles start) updated
   where
@@ -150,8 +150,8 @@ UpdatesLeave s reopened t = ((t ≡ s) × (reopened ≡ [])) ⊎ ((way : Departu
 
 through-stands : (idle : Bool) (w : NodeState) (reopened : List LastKnown) (v : NodeState) → UpdatedIf idle w reopened v → UpdatesLeave w.standing reopened v.standing
 through-stands true w reopened v updated =
-    let same : v.standing ≡ updated.between.standing = each-stand updated.opened updated.between v updated.each in
-    let left : updated.between.standing ≡ (reopening w.standing updated.reopening_is.way).after = ap (λ (x : NodeState). x.standing) updated.reopening_is.world_is in
+    let same : v.standing ≡ updated.refreshed.standing = each-stand updated.opened updated.refreshed v updated.each in
+    let left : updated.refreshed.standing ≡ (reopening w.standing updated.reopening_is.way).after = ap (λ (x : NodeState). x.standing) updated.reopening_is.world_is in
     inr (updated.reopening_is.way, same ∙ left, updated.reopened_is ∙ ap (λ (s : LastKnown). s ∷ []) (sym same))
 through-stands false w reopened v updated = inl (ap (λ (x : NodeState). x.standing) updated.0, updated.1)
 

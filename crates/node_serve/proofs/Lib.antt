@@ -3,6 +3,7 @@ pub mod ImapDoor
 pub mod PlaceMaps
 pub mod Turning
 pub mod Later
+pub mod Reading
 pub mod Suits
 pub mod Running
 pub mod Counting

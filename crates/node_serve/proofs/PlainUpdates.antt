@@ -3,20 +3,12 @@ use Rattle.std.proofs.Common.{◌≡◌, ◌⊎◌, ◌≤◌, ◌+◌, ◌-◌,
 use Rattle.std.proofs.lemmas.Bool.Decides.{nat_tests}
 use Rattle.edge_io.specs.Hosts.{OthersKept}
 use Rattle.edge_io.specs.Taken.{plus}
-use Rattle.line_door.specs.Acts.{ConnectionState, Said, Departure, Plain, Memory, Disk, Newer, PlainActs, Acts, StopsShort, Sent}
-use Rattle.line_door.specs.Plain.{silent}
-use Rattle.arch_model.specs.Archives.{Archive}
-use Rattle.arch_model.specs.Standing.{LastKnown, standing}
-use Rattle.imap_framer.specs.Doors.{beside}
-use Rattle.imap_session.specs.Door.{ImapClient}
-use Rattle.imap_session.specs.Idling as idling
-use Rattle.imap_states.specs.Replies.{update_said}
-use Rattle.imap_states.specs.States as states
+use Rattle.line_door.specs.Acts.{ConnectionState, Said, Departure, Plain, PlainActs, Acts}
+use Rattle.arch_model.specs.Standing.{LastKnown}
 use Rattle.node_serve.specs.Plain.{set_at, after_said, update_if, update_of, plain_update, plain_updates, opened_plainly, plain_updated_if, plain_updated, CountsSessions, PlainActAt, PlainUpdateBy, PlainUpdateAt, PlainUpdatedIf, PlainUpdatedUnless}
 use Rattle.node_serve.specs.Updates.{connection_limit, idles, idles_if, any_idles, EachBelow, IfIdles, said_update, UpdateAct, UpdateBy, UpdateAt, EachIf, UpdatedThrough, UpdatedIf, UpdatedUnless}
 use Rattle.node_serve.specs.World.{NodeState, outer, Around, outside_at, one_if, closed_if, closed_at_if, open_below}
 use Rattle.node_serve.specs.declared.session.Session.{Session}
-use Rattle.node_serve.specs.declared.session.Session.TheVariants as session
 use Rattle.node_serve.proofs.Counting.{update-cases, counted-one, counted-same}
 
 -- A plain act is an act by the rules.
@@ -113,52 +105,6 @@ update-kept c w v update = by (update-cases c w v update)
     by (inl still) d other = ap (λ (x : NodeState). x.session d) still.0
     by (inr told) d other = told.3.0.around.sessions d other
 
--- At its door an update leaves the archive.
-door-after : (a : Archive) (client : ImapClient) (way : Departure) → (idling.said_update a client way).after ≡ a
-door-after a client way = by (states.idles client.0) way
-  where
-    by : (t : Bool) (by_way : Departure) → (if t then beside client.1 (update_said a client.0 by_way) else silent a client).after ≡ a
-    by true Plain = refl
-    by true Memory = refl
-    by true Disk = refl
-    by true Newer = refl
-    by false by_way = refl
-
--- In each way an update leaves what stands.
-pub said-after : (s : LastKnown) (start : Session) (way : Departure) → (said_update s start way).after ≡ s
-said-after s (session.Imap client) way = ap (λ (a : Archive). standing a s.in_doubt) (door-after s.archive client way)
-said-after s start way = refl
-
--- A reply that stops short leaves what stands, if its words do.
-short-after : (words : Departure → Said Session LastKnown) (s : LastKnown) (i : ConnectionState) (held : Option Session) (a : LastKnown) (j : ConnectionState) → ((way : Departure) → (words way).after ≡ s) → (way : Departure) → StopsShort words way i held a j → a ≡ s
-short-after words s i held a j same Plain never = absurd never
-short-after words s i held a j same Memory short = short.after_is ∙ same Plain
-short-after words s i held a j same Disk short = short.after_is ∙ same Plain
-short-after words s i held a j same Newer never = absurd never
-
--- So does an act, if its words do so in each way.
-sent-after : (words : Departure → Said Session LastKnown) (s : LastKnown) (i : ConnectionState) (held : Option Session) (a : LastKnown) (j : ConnectionState) → ((way : Departure) → (words way).after ≡ s) → (way : Departure) → Sent words way i held a j → a ≡ s
-sent-after words s i held a j same way (inl whole) = whole.after_is ∙ same way
-sent-after words s i held a j same way (inr (inl lost)) = lost.after_is ∙ same way
-sent-after words s i held a j same way (inr (inr short)) = short-after words s i held a j same way short
-
--- An update leaves what stands.
-pub update-standing : (c : ℕ) (w v : NodeState) → UpdateAt c w v → v.standing ≡ w.standing
-update-standing c w v update = by (update-cases c w v update)
-  where
-    by : ((v ≡ w) × (idles_if (w.session c) ≡ false)) ⊎ ((start : Session) × (w.session c ≡ Some start) × (idles start ≡ true) × UpdateAct start c w v) → v.standing ≡ w.standing
-    by (inl still) = ap (λ (x : NodeState). x.standing) still.0
-    by (inr told) =
-        sent-after (said_update w.standing told.0) w.standing (outside_at c w.out) (v.session c) v.standing (outside_at c v.out) (λ way. said-after w.standing told.0 way) told.3.0.acts.way told.3.0.acts.sent
-
--- In an update the disk doesn't fail.
-pub update-disk : (c : ℕ) (w v : NodeState) → UpdateAt c w v → v.out.disk ≡ w.out.disk
-update-disk c w v update = by (update-cases c w v update)
-  where
-    by : ((v ≡ w) × (idles_if (w.session c) ≡ false)) ⊎ ((start : Session) × (w.session c ≡ Some start) × (idles start ≡ true) × UpdateAct start c w v) → v.out.disk ≡ w.out.disk
-    by (inl still) = ap (λ (x : NodeState). x.out.disk) still.0
-    by (inr told) = told.3.1
-
 -- After an update at least as many sessions are counted as are open.
 pub update-counted : (c : ℕ) (w v : NodeState) → UpdateAt c w v → CountsSessions w → CountsSessions v
 update-counted c w v update counted = by (update-cases c w v update)
@@ -166,25 +112,6 @@ update-counted c w v update counted = by (update-cases c w v update)
     by : ((v ≡ w) × (idles_if (w.session c) ≡ false)) ⊎ ((start : Session) × (w.session c ≡ Some start) × (idles start ≡ true) × UpdateAct start c w v) → CountsSessions v
     by (inl still) = counted-same w v still.0 counted
     by (inr told) = counted-one c w v told.3.0.around.sessions told.3.0.around.count counted
-
--- Where each connection below a number leaves the sessions of others, those from the number on stay.
-pub each-same : (does : ℕ → NodeState → NodeState → Type 0) → ((c : ℕ) (w v : NodeState) → does c w v → OthersKept c w.session v.session) → (n : ℕ) (w v : NodeState) → EachBelow does n w v → (d : ℕ) → n ≤ d → v.session d ≡ w.session d
-each-same does kept zero w v same d from = ap (λ (x : NodeState). x.session d) same
-each-same does kept (suc c) w v each d from = kept c each.0 v each.2 d (λ is. (omega (arith, from, is))) ∙ each-same does kept c w each.0 each.1 d (omega (arith, from))
-
--- So they do after updates.
-pub updates-same : (n : ℕ) (w v : NodeState) → EachBelow UpdateAt n w v → (d : ℕ) → n ≤ d → v.session d ≡ w.session d
-updates-same n w v each d from = each-same UpdateAt update-kept n w v each d from
-
--- Updates leave what stands.
-pub each-standing : (n : ℕ) (w v : NodeState) → EachBelow UpdateAt n w v → v.standing ≡ w.standing
-each-standing zero w v same = ap (λ (x : NodeState). x.standing) same
-each-standing (suc c) w v each = update-standing c each.0 v each.2 ∙ each-standing c w each.0 each.1
-
--- In updates the disk doesn't fail.
-pub each-disk : (n : ℕ) (w v : NodeState) → EachBelow UpdateAt n w v → v.out.disk ≡ w.out.disk
-each-disk zero w v same = ap (λ (x : NodeState). x.out.disk) same
-each-disk (suc c) w v each = update-disk c each.0 v each.2 ∙ each-disk c w each.0 each.1
 
 -- After updates at least as many sessions are counted as are open.
 pub each-counted : (n : ℕ) (w v : NodeState) → EachBelow UpdateAt n w v → CountsSessions w → CountsSessions v
@@ -202,7 +129,7 @@ updated-counted true w reopened v updated counted = counted-same w v updated.0 c
 updated-counted false w reopened v updated counted = by (any_idles w.session) updated
   where
     through : UpdatedThrough w reopened v → CountsSessions v
-    through u = all-counted u.opened u.between v u.each (subst (λ (x : NodeState). CountsSessions x) (sym u.reopening_is.world_is) counted)
+    through u = all-counted u.opened u.refreshed v u.each (subst (λ (x : NodeState). CountsSessions x) (sym u.reopening_is.world_is) counted)
 
     by : (b : Bool) → UpdatedIf b w reopened v → CountsSessions v
     by true u = through u
@@ -311,7 +238,7 @@ updated-by false w reopened v updated = by (any_idles w.session) updated
     by : (b : Bool) → PlainUpdatedIf b w reopened v → UpdatedIf b w reopened v
     by true u = record {
       opened = true;
-      between = opened_plainly w;
+      refreshed = opened_plainly w;
       reopening_is = record { way = Plain; cause = refl; disk_later = omega arith; opened_is = refl; world_is = refl };
       each = plain-each-by connection_limit (opened_plainly w) v u.0;
       reopened_is = u.1;

@@ -1,5 +1,5 @@
 -- The reopening of the archive before updates, and what a node's updates are then.
-use Rattle.std.proofs.Common.{◌≡◌, ◌≤◌, ◌<◌, ◌⊎◌, ℕ, Bool, true, false, List, [], ◌∷◌, Option, Some, None, Ok, refl, sym, ap, subst, ◌∙◌, arith, inl, inr}
+use Rattle.std.proofs.Common.{◌≡◌, ◌≤◌, ◌<◌, ◌⊎◌, ℕ, Bool, true, false, List, [], ◌∷◌, Option, None, Ok, refl, sym, ap, subst, ◌∙◌, arith, inl, inr}
 use Rattle.std.proofs.lemmas.Bool.{false≢true}
 use Rattle.line_door.specs.Acts.{Plain, Memory, Disk, Newer, outside, held_if}
 use Rattle.arch_model.specs.Archives.{Archive}
@@ -9,32 +9,15 @@ use Rattle.arch_model.specs.declared.opening.OpenRefusal.{OpenRefusal}
 use Rattle.arch_model.specs.declared.opening.OpenRefusal.TheVariants as opening
 use Rattle.keep_course.specs.Answering.{newer_of, ReopenedAs}
 use Rattle.keep_course.proofs.Commands.{reopening-nothing, reopening-refused}
-use Rattle.imap_states.proofs.Suiting.{later_suits}
 use Rattle.node_serve.specs.Laws.{UpdatesOnce}
 use Rattle.node_serve.specs.Nodes.{OpenSessions, serving, session_of, places_of, world_of, NodeSuits, KeeperReopened, ReopenedIf, UpdatesTo}
-use Rattle.node_serve.specs.Suiting.{SessionSuits, SessionSuitsIf, KeepsGone, ClientsSuit, NotedIs}
+use Rattle.node_serve.specs.Suiting.{NotedIs}
 use Rattle.node_serve.specs.Updates.{idles_if, any_idles, connection_limit, EachBelow, EachIf, UpdateAt, reopening, ReopenedFor, UpdatedIf, UpdatedThrough, AllTold}
 use Rattle.node_serve.specs.World.{HostState, NodeState, with_disk}
 use Rattle.node_serve.specs.declared.session.Session.{Session}
-use Rattle.node_serve.specs.declared.session.Session.TheVariants as session
 use Rattle.node_serve.specs.declared.updates.Idling.{Idling}
 use Rattle.node_serve.specs.declared.updates.Idling.TheVariants.{Nobody, Told, Untold}
 use Rattle.node_serve.proofs.Updating.{one-idles, none-idles}
-
--- What a session knows suits a later archive, to which no number that is gone came back.
-later-session : (start : Session) (a b : Archive) → KeepsGone a b → SessionSuits a start → SessionSuits b start
-later-session (session.Imap client) a b gone suits = later_suits a b client.0 gone.0 gone.1 suits
-later-session other a b gone suits = tt
-
--- The same of the session of a connection, if it has one.
-later-if : (o : Option Session) (a b : Archive) → KeepsGone a b → SessionSuitsIf a o → SessionSuitsIf b o
-later-if None a b gone suits = tt
-later-if (Some start) a b gone suits = later-session start a b gone suits
-
--- So it suits the archive that a reopening finds.
-pub found-suits : (s : LastKnown) (p : OpenSessions) (o : HostState) (b : Archive) → IsFound s b → ClientsSuit (world_of s p o) → (c : ℕ) → SessionSuitsIf b (p.session c)
-found-suits s p o b (inl older) suits c = subst (λ (a : Archive). SessionSuitsIf a (p.session c)) (sym older) (suits.clients c)
-found-suits s p o b (inr in_doubt) suits c = later-if (p.session c) s.archive b (suits.in_doubt b in_doubt) (suits.clients c)
 
 -- The archive was reopened.
 module _ (s t : LastKnown) (p : OpenSessions) (o : HostState) (disk : ℕ) where
@@ -85,7 +68,7 @@ settled-is : (s t : LastKnown) → Settles s t → t ≡ standing t.archive None
 settled-is s t settles = ap (λ (d : Option Archive). standing t.archive d) settles.sure
 
 -- A keeper is left alone where no session idles and where it is ready.
-pub left-alone : {K : Type 0} (g : Keeper K) (session : ℕ → Option Session) (old new : K) (c : ℕ) → c < 4294967296 → idles_if (session c) ≡ true → (g.ready old ≡ true → new ≡ old) → (false ≡ true) ⊎ ((any_idles session ≡ false) ⊎ (g.ready old ≡ true)) → new ≡ old
+pub left-alone : {K : Type 0} (g : Keeper K) (session : ℕ → Option Session) (old new : K) (c : ℕ) → c < connection_limit → idles_if (session c) ≡ true → (g.ready old ≡ true → new ≡ old) → (false ≡ true) ⊎ ((any_idles session ≡ false) ⊎ (g.ready old ≡ true)) → new ≡ old
 left-alone g session old new c low on nothing (inl never) = absurd (false≢true never)
 left-alone g session old new c low on nothing (inr (inl none)) = absurd (false≢true (sym none ∙ one-idles session c low on))
 left-alone g session old new c low on nothing (inr (inr ready)) = nothing ready
@@ -107,7 +90,7 @@ module _ {K : Type 0} (g : Keeper K) (s : LastKnown) (old : K) (p : List (ℕ ×
       }
 
   -- It is noted that no session idles.
-  pub updates-none : (before : Idling) → MatchesKnown g old s → ((c : ℕ) → c < 4294967296 → idles_if (session_of p c) ≡ false) → UpdatesTo g false s (serving old p before) i (serving old p Nobody) i
+  pub updates-none : (before : Idling) → MatchesKnown g old s → ((c : ℕ) → c < connection_limit → idles_if (session_of p c) ≡ false) → UpdatesTo g false s (serving old p before) i (serving old p Nobody) i
   updates-none before fits none = never-given before Nobody fits (none-idles (session_of p) none) none (λ told. absurd (cc told))
 
   module _ (new : K) (before : Idling) (idle : any_idles (session_of p) ≡ true) where
@@ -123,7 +106,7 @@ module _ {K : Type 0} (g : Keeper K) (s : LastKnown) (old : K) (p : List (ℕ ×
         let later : KeeperMoves g old s new u = subst (λ (x : LastKnown). KeeperMoves g old s new x) (settled-is s t settles) moves in
         let through : UpdatedThrough w (u ∷ []) v = record {
           opened = true;
-          between = m;
+          refreshed = m;
           reopening_is = reopened-found s t (places_of p) i j.disk settles kept;
           each = each;
           reopened_is = refl;
@@ -159,7 +142,7 @@ module _ {K : Type 0} (g : Keeper K) (s : LastKnown) (old : K) (p : List (ℕ ×
         let same : v ≡ world_of t (places_of p) (with_disk j.disk i) = ap (λ (x : HostState). world_of t (places_of p) x) out in
         let at : ReopenedFor false w v = subst (λ (x : NodeState). ReopenedFor false w x) (sym same) (reopened-refused s t (places_of p) i j.disk why refused cause later) in
         let acts = reopening-refused says-none s tt t why (outside None i.disk i.lost) (outside None j.disk i.lost) (Ok tt) refused cause later (refl, refl) in
-        let through : UpdatedThrough w (t ∷ []) v = record { opened = false; between = v; reopening_is = at; each = refl; reopened_is = refl } in
+        let through : UpdatedThrough w (t ∷ []) v = record { opened = false; refreshed = v; reopening_is = at; each = refl; reopened_is = refl } in
         let does : ReopenedAs g (reopening s) old (outside None i.disk i.lost) (held_if false tt) new t (outside None j.disk i.lost) = record {
           nothing = λ at_hand. absurd (stale at_hand);
           found = λ was at_hand. absurd (false≢true (sym ready ∙ at_hand));

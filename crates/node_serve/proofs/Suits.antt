@@ -19,7 +19,7 @@ use Rattle.arch_model.specs.Delivery.{applied}
 use Rattle.arch_model.specs.Laws.{KeepsValid}
 use Rattle.arch_model.specs.Standing.{LastKnown}
 use Rattle.arch_model.specs.Validity.{IsArchive}
-use Rattle.arch_model.specs.Keeping.{Keeper}
+use Rattle.arch_model.specs.Keeping.{MatchesKnown, Keeper}
 use Rattle.arch_model.specs.declared.command.Command.{Command}
 use Rattle.known_uids.specs.Staying.{CommandsKeepGone, GoneStayItself, GoneStayThrough}
 use Rattle.imap_states.specs.States.{SuitsClient}
@@ -31,7 +31,8 @@ use Rattle.imap_session.proofs.Suiting.{act-left}
 use Rattle.node_serve.specs.Doors.{SessionAtWork, Came, AtControl, AtNews, AtPop, AtHttp, AtLmtp, AtImap, said, is_asked, with_piece, rest_if, session_limit, opening_at, greets, said_making}
 use Rattle.node_serve.specs.Ends.{is_stop}
 use Rattle.node_serve.specs.Laws.{GoOnSuiting}
-use Rattle.node_serve.specs.Nodes.{OpenSessions, Serving, stage, event_stages, places_in, world_of, NotesAfter, ActsAnyway, UpdatesAnyway, ReadsForEvent, LeftAlone, TurnKeptBy, ActsAlong, NodeSuits, DoesActs, GivesUpdates, TurnsBy}
+use Rattle.node_serve.specs.Nodes.{Serving, stage, event_stages, places_in, world_of, ActsAnyway, UpdatesAnyway, ReadsForEvent, LeftAlone, TurnKeptBy, ActsAlong, NodeSuits, DoesActs, GivesUpdates, TurnsBy}
+use Rattle.node_serve.specs.Notes.{reads_only_if, note_through, NoteStays, NotesAfter}
 use Rattle.node_serve.specs.Suiting.{SessionSuits, SessionSuitsIf, KeepsGone, ClientsSuit, NotedIs}
 use Rattle.node_serve.specs.Turns.{FedAt, CameTo, ActedBy, Acted}
 use Rattle.node_serve.specs.Updates.{idles, idles_if, said_update, EachBelow, IfIdles, UpdateAct, UpdateBy, UpdateAt, connection_limit, any_idles, ReopenedFor, EachIf, UpdatedIf, UpdatedUnless, IsTold, AllTold}
@@ -40,6 +41,8 @@ use Rattle.node_serve.specs.declared.session.Session.{Session}
 use Rattle.node_serve.specs.declared.session.Session.TheVariants as session
 use Rattle.node_serve.specs.declared.updates.Idling.{Idling}
 use Rattle.node_serve.specs.declared.updates.Idling.TheVariants.{Nobody, Told, Untold}
+use Rattle.node_serve.proofs.ImapDoor.{later-suits, later-if}
+use Rattle.node_serve.proofs.Reading.{came-stands, came-ready}
 use Rattle.node_serve.proofs.Later.{acts-after, making-after, update-after, LaterIn, said-later, acts-later, reopened-later}
 
 -- What a session at work knows suits the archive.
@@ -130,26 +133,14 @@ module _ (gone : CommandsKeepGone) (itself : GoneStayItself) (through : GoneStay
   suited-command moment early a command valid = (gone a command moment valid, keeps a command moment early valid)
 
   -- What suited an archive suits a later one.
-  session-later : (a b : Archive) (start : Session) → KeepsGone a b → SessionSuits a start → SessionSuits b start
-  session-later a b (session.Control bytes) later suits = tt
-  session-later a b (session.News reader) later suits = tt
-  session-later a b (session.Pop client) later suits = tt
-  session-later a b (session.Http bytes) later suits = tt
-  session-later a b (session.Lmtp guest) later suits = tt
-  session-later a b (session.Imap client) later suits = suit.later a b client later.0 later.1 suits
-
-  if-later : (a b : Archive) (o : Option Session) → KeepsGone a b → SessionSuitsIf a o → SessionSuitsIf b o
-  if-later a b None later suits = tt
-  if-later a b (Some start) later suits = session-later a b start later suits
-
   work-later : (a b : Archive) (h : SessionAtWork) → KeepsGone a b → AtWorkSuits a h → AtWorkSuits b h
-  work-later a b (Came start piece) later suits = session-later a b start later suits
+  work-later a b (Came start piece) later suits = later-suits a b start later suits
   work-later a b (AtControl w) later suits = tt
   work-later a b (AtNews reader) later suits = tt
   work-later a b (AtPop client) later suits = tt
   work-later a b (AtHttp bytes) later suits = tt
   work-later a b (AtLmtp guest) later suits = tt
-  work-later a b (AtImap client) later suits = suit.later a b client later.0 later.1 suits
+  work-later a b (AtImap client) later suits = later-suits a b (session.Imap client) later suits
 
   -- What an act leaves suits the archive before it.
 
@@ -217,7 +208,7 @@ module _ (gone : CommandsKeepGone) (itself : GoneStayItself) (through : GoneStay
       let done = last-suits moment early w.standing.archive fed.before (talk fed.held v.standing (outside_at c v.out)) fed.last before in
       record {
         valid = done.later.1;
-        clients = all-suit v.standing.archive c w.session v.session fed.around.sessions (λ d. if-later w.standing.archive v.standing.archive (w.session d) done.later (suits.clients d))
+        clients = all-suit v.standing.archive c w.session v.session fed.around.sessions (λ d. later-if w.standing.archive v.standing.archive (w.session d) done.later (suits.clients d))
             (subst (λ (x : Option Session). SessionSuitsIf v.standing.archive x) (sym fed.rest_is) (rest-suits v.standing.archive fed.held done.here));
         in_doubt = done.in_doubt;
       }
@@ -292,7 +283,7 @@ module _ (gone : CommandsKeepGone) (itself : GoneStayItself) (through : GoneStay
       let sessions : v.session ≡ w.session = ap (λ (x : NodeState). x.session) reopens.world_is in
       record {
         valid = now.1;
-        clients = λ d. if-later w.standing.archive v.standing.archive (v.session d) now (subst (λ (f : ℕ → Option Session). SessionSuitsIf w.standing.archive (f d)) (sym sessions) (suits.clients d));
+        clients = λ d. later-if w.standing.archive v.standing.archive (v.session d) now (subst (λ (f : ℕ → Option Session). SessionSuitsIf w.standing.archive (f d)) (sym sessions) (suits.clients d));
         in_doubt = λ b is. next.in_doubt b is now.1;
       }
 
@@ -302,7 +293,7 @@ module _ (gone : CommandsKeepGone) (itself : GoneStayItself) (through : GoneStay
 
   -- All updates.
   through-suits : (idle : Bool) (w : NodeState) (reopened : List LastKnown) (v : NodeState) → UpdatedIf idle w reopened v → ClientsSuit w → ClientsSuit v
-  through-suits true w reopened v updated suits = open-suits updated.opened updated.between v updated.each (reopened-suits updated.opened w updated.between updated.reopening_is suits)
+  through-suits true w reopened v updated suits = open-suits updated.opened updated.refreshed v updated.each (reopened-suits updated.opened w updated.refreshed updated.reopening_is suits)
   through-suits false w reopened v updated suits = subst ClientsSuit (sym updated.0) suits
 
   updated-suits : (stops : Bool) (w : NodeState) (reopened : List LastKnown) (v : NodeState) → UpdatedUnless stops w reopened v → ClientsSuit w → ClientsSuit v
@@ -353,28 +344,30 @@ noted-same : (before after : Idling) (v : NodeState) → after ≡ before → No
 noted-same before after v is noted = subst (λ (n : Idling). NotedIs n v) (sym is) noted
 
 -- A note after an act on a connection.
-noted-one : (c : ℕ) (before after : Idling) (w v : NodeState) → v.standing ≡ w.standing → OthersKept c w.session v.session → ((after ≡ before) × (idles_if (v.session c) ≡ false)) ⊎ (after ≡ Untold) → NotedIs before w → NotedIs after v
+noted-one : (c : ℕ) (before after : Idling) (w v : NodeState) → v.standing ≡ w.standing → OthersKept c w.session v.session → NoteStays before (v.session c) after → NotedIs before w → NotedIs after v
 noted-one c before after w v same others (inl kept) noted = noted-same before after v kept.0 (noted-stays before w v same (others-stay c w v others kept.1) noted)
 noted-one c before after w v same others (inr untold) noted = noted-same Untold after v untold tt
 
--- A note after a piece.
-noted-piece : (c : ℕ) (before after : Idling) (w v : NodeState) → OthersKept c w.session v.session → ((after ≡ Nobody) × (before ≡ Nobody) × (idles_if (v.session c) ≡ false)) ⊎ (after ≡ Untold) → NotedIs before w → NotedIs after v
-noted-piece c before after w v others (inl kept) noted =
-    noted-same Nobody after v kept.0 (nobody-stays w v (others-stay c w v others kept.2) (subst (λ (n : Idling). NotedIs n w) kept.1 noted))
-noted-piece c before after w v others (inr untold) noted = noted-same Untold after v untold tt
+-- A note after a piece, which leaves what stands if its door only reads and all were told.
+noted-piece : (c : ℕ) (reads : Bool) (before after : Idling) (w v : NodeState) → (before ≡ Told → reads ≡ true → v.standing ≡ w.standing) → OthersKept c w.session v.session → NoteStays (note_through before reads) (v.session c) after → NotedIs before w → NotedIs after v
+noted-piece c reads before after w v same others (inr untold) noted = noted-same Untold after v untold tt
+noted-piece c reads Nobody after w v same others (inl kept) noted = noted-same Nobody after v kept.0 (nobody-stays w v (others-stay c w v others kept.1) noted)
+noted-piece c true Told after w v same others (inl kept) noted = noted-same Told after v kept.0 (noted-stays Told w v (same refl refl) (others-stay c w v others kept.1) noted)
+noted-piece c false Told after w v same others (inl kept) noted = noted-same Untold after v kept.0 tt
+noted-piece c reads Untold after w v same others (inl kept) noted = noted-same Untold after v kept.0 tt
 
--- A note after the acts of an event.
-pub noted-after : (happened : What) (moment : ℕ) (piece : List ℕ) (w : NodeState) (passed : List LastKnown) (t : LastKnown) (q : OpenSessions) (j : HostState) (before after : Idling) → ActedBy happened moment piece w passed (world_of t q j) → NotesAfter happened before q after → NotedIs before w → NotedIs after (world_of t q j)
-noted-after (what.Opened c at) moment piece w passed t q j before after acted notes noted =
-    noted-one c before after w (world_of t q j) (acts-after _ w.standing _ _ t _ (λ way. making-after moment at (others_open c w) w.standing way) acted.0.acts) acted.0.around.sessions notes noted
-noted-after (what.Bytes c len) moment piece w passed t q j before after acted notes noted = noted-piece c before after w (world_of t q j) (by (w.session c) acted) notes noted
-  where
-    by : (start : Option Session) → CameTo start moment c piece w passed (world_of t q j) → OthersKept c w.session q.session
-    by None came = λ d apart. came.0.sessions d
-    by (Some start) came = came.around.sessions
-noted-after (what.Ended c) moment piece w passed t q j before after acted notes noted = noted-one c before after w (world_of t q j) acted.0.standing acted.0.sessions notes noted
-noted-after what.Quiet moment piece w passed t q j before after acted notes noted = noted-same before after (world_of t q j) notes (noted-stays before w (world_of t q j) acted.0.standing (λ d. inl (acted.0.sessions d)) noted)
-noted-after what.Stop moment piece w passed t q j before after acted notes noted = noted-same before after (world_of t q j) notes (noted-stays before w (world_of t q j) acted.0.standing (λ d. inl (acted.0.sessions d)) noted)
+-- Where a note says after a piece that all were told, it said so before, and its door only reads.
+still-told : (reads : Bool) (before after : Idling) (held : Option Session) (P : Type 0) → NoteStays (note_through before reads) held after → after ≡ Told → (before ≡ Told → reads ≡ true → P) → P
+still-told reads before after held P (inr untold) told holds = absurd (let never : Untold ≡ Told = sym untold ∙ told in cc never)
+still-told reads Nobody after held P (inl kept) told holds = absurd (let never : Nobody ≡ Told = sym kept.0 ∙ told in cc never)
+still-told true Told after held P (inl kept) told holds = holds refl refl
+still-told false Told after held P (inl kept) told holds = absurd (let never : Untold ≡ Told = sym kept.0 ∙ told in cc never)
+still-told reads Untold after held P (inl kept) told holds = absurd (let never : Untold ≡ Told = sym kept.0 ∙ told in cc never)
+
+-- What a piece leaves of the sessions of others.
+came-others : (o : Option Session) (moment c : ℕ) (piece : List ℕ) (w : NodeState) (passed : List LastKnown) (v : NodeState) → CameTo o moment c piece w passed v → OthersKept c w.session v.session
+came-others None moment c piece w passed v came = λ d apart. came.0.sessions d
+came-others (Some start) moment c piece w passed v came = came.around.sessions
 
 -- Turns.
 module _ {K : Type 0} (g : Keeper K) where
@@ -383,32 +376,47 @@ module _ {K : Type 0} (g : Keeper K) where
   ready-kept : (before after : Idling) (old new : K) → after ≡ before → new ≡ old → (before ≡ Told → g.ready old ≡ true) → after ≡ Told → g.ready new ≡ true
   ready-kept before after old new same kept ready told = ap g.ready kept ∙ ready (sym same ∙ told)
 
-  ready-one : (before after : Idling) (old new : K) (P : Type 0) → ((after ≡ before) × P) ⊎ (after ≡ Untold) → new ≡ old → (before ≡ Told → g.ready old ≡ true) → after ≡ Told → g.ready new ≡ true
-  ready-one before after old new P (inl same) kept ready told = ready-kept before after old new same.0 kept ready told
-  ready-one before after old new P (inr untold) kept ready told = absurd (let never : Untold ≡ Told = sym untold ∙ told in cc never)
+  ready-one : (before after : Idling) (held : Option Session) (old new : K) → NoteStays before held after → new ≡ old → (before ≡ Told → g.ready old ≡ true) → after ≡ Told → g.ready new ≡ true
+  ready-one before after held old new (inl same) kept ready told = ready-kept before after old new same.0 kept ready told
+  ready-one before after held old new (inr untold) kept ready told = absurd (let never : Untold ≡ Told = sym untold ∙ told in cc never)
 
-  ready-piece : (before after : Idling) (P : Type 0) → ((after ≡ Nobody) × (before ≡ Nobody) × P) ⊎ (after ≡ Untold) → after ≡ Told → ⊥
-  ready-piece before after P (inl nobody) told = absurd (let never : Nobody ≡ Told = sym nobody.0 ∙ told in cc never)
-  ready-piece before after P (inr untold) told = absurd (let never : Untold ≡ Told = sym untold ∙ told in cc never)
+  -- The acts of an event, from one node to the next.
+  module _ (moment : ℕ) (piece : List ℕ) (old new : Serving K) (s : LastKnown) (i : HostState) (passed : List LastKnown) (t : LastKnown) (j : HostState) where
+    -- A note after them.
+    noted-after : (happened : What) → ActedBy happened moment piece (world_of s (places_in old) i) passed (world_of t (places_in new) j) → TurnKeptBy (ActsAlong g) happened moment piece old.keep (world_of s (places_in old) i) passed new.keep (world_of t (places_in new) j) → MatchesKnown g old.keep s → NodeSuits g s old i → NotesAfter happened old new → NotedIs new.idling (world_of t (places_in new) j)
+    noted-after (what.Opened c at) acted kept fits suits notes =
+        noted-one c old.idling new.idling (world_of s (places_in old) i) (world_of t (places_in new) j) (acts-after _ s _ _ t _ (λ way. making-after moment at (others_open c (world_of s (places_in old) i)) s way) acted.0.acts) acted.0.around.sessions notes suits.noted
+    noted-after (what.Bytes c len) acted kept fits suits notes =
+        let w = world_of s (places_in old) i in
+        let v = world_of t (places_in new) j in
+        noted-piece c (reads_only_if (w.session c)) old.idling new.idling w v
+        (λ told reads. came-stands g moment c piece old.keep new.keep w v passed (w.session c) reads (suits.ready told) (fits.settled (suits.ready told)).1 acted kept) (came-others (w.session c) moment c piece w passed v acted) notes suits.noted
+    noted-after (what.Ended c) acted kept fits suits notes = noted-one c old.idling new.idling (world_of s (places_in old) i) (world_of t (places_in new) j) acted.0.standing acted.0.sessions notes suits.noted
+    noted-after what.Quiet acted kept fits suits notes = noted-same old.idling new.idling (world_of t (places_in new) j) notes (noted-stays old.idling (world_of s (places_in old) i) (world_of t (places_in new) j) acted.0.standing (λ d. inl (acted.0.sessions d)) suits.noted)
+    noted-after what.Stop acted kept fits suits notes = noted-same old.idling new.idling (world_of t (places_in new) j) notes (noted-stays old.idling (world_of s (places_in old) i) (world_of t (places_in new) j) acted.0.standing (λ d. inl (acted.0.sessions d)) suits.noted)
 
-  pub ready-after : (happened : What) (moment : ℕ) (piece : List ℕ) (old new : K) (w : NodeState) (passed : List LastKnown) (v : NodeState) (q : OpenSessions) (before after : Idling) → TurnKeptBy (ActsAlong g) happened moment piece old w passed new v → NotesAfter happened before q after → (before ≡ Told → g.ready old ≡ true) → after ≡ Told → g.ready new ≡ true
-  ready-after (what.Opened c at) moment piece old new w passed v q before after kept notes ready told = ready-one before after old new (idles_if (q.session c) ≡ false) notes kept ready told
-  ready-after (what.Bytes c len) moment piece old new w passed v q before after kept notes ready told = absurd (ready-piece before after (idles_if (q.session c) ≡ false) notes told)
-  ready-after (what.Ended c) moment piece old new w passed v q before after kept notes ready told = ready-one before after old new (idles_if (q.session c) ≡ false) notes kept ready told
-  ready-after what.Quiet moment piece old new w passed v q before after kept notes ready told = ready-kept before after old new notes kept ready told
-  ready-after what.Stop moment piece old new w passed v q before after kept notes ready told = ready-kept before after old new notes kept ready told
+    -- The keeper after them.
+    ready-after : (happened : What) → ReadsForEvent g moment happened piece old new → TurnKeptBy (ActsAlong g) happened moment piece old.keep (world_of s (places_in old) i) passed new.keep (world_of t (places_in new) j) → NotesAfter happened old new → (old.idling ≡ Told → g.ready old.keep ≡ true) → new.idling ≡ Told → g.ready new.keep ≡ true
+    ready-after (what.Opened c at) reads kept notes ready told = ready-one old.idling new.idling ((places_in new).session c) old.keep new.keep notes kept ready told
+    ready-after (what.Bytes c len) reads kept notes ready told =
+        let here = (places_in old).session c in
+        still-told (reads_only_if here) old.idling new.idling ((places_in new).session c) (g.ready new.keep ≡ true) notes told
+        (λ was only. came-ready g moment c piece old.keep new.keep (world_of s (places_in old) i) (world_of t (places_in new) j) passed here only (ready was) reads kept)
+    ready-after (what.Ended c) reads kept notes ready told = ready-one old.idling new.idling ((places_in new).session c) old.keep new.keep notes kept ready told
+    ready-after what.Quiet reads kept notes ready told = ready-kept old.idling new.idling old.keep new.keep notes kept ready told
+    ready-after what.Stop reads kept notes ready told = ready-kept old.idling new.idling old.keep new.keep notes kept ready told
 
   -- An event is its acts, and then its updates.
   pub turns-by : GoOnSuiting → (arrival : Arrival) (old mid new : Serving K) (i m j : HostState) → arrival.0.moment ≤ last_moment → DoesActs g arrival old i mid m → ActsAnyway arrival old i mid m → ReadsForEvent g arrival.0.moment arrival.0.what arrival.1 old mid
-      → NotesAfter arrival.0.what old.idling (places_in mid) mid.idling → GivesUpdates g (is_stop arrival.0.what) mid m new j → UpdatesAnyway (is_stop arrival.0.what) (places_in mid) m (places_in new) j → LeftAlone g (is_stop arrival.0.what) mid new.keep → (g.ready new.keep ≡ false → UpdatesAnyway true (places_in mid) m (places_in new) j) → m.disk ≡ g.faults mid.keep → j.disk ≡ g.faults new.keep
+      → NotesAfter arrival.0.what old mid → GivesUpdates g (is_stop arrival.0.what) mid m new j → UpdatesAnyway (is_stop arrival.0.what) (places_in mid) m (places_in new) j → LeftAlone g (is_stop arrival.0.what) mid new.keep → (g.ready new.keep ≡ false → UpdatesAnyway true (places_in mid) m (places_in new) j) → m.disk ≡ g.faults mid.keep → j.disk ≡ g.faults new.keep
       → TurnsBy g arrival (stage old i) (event_stages (stage mid m) (stage new j))
   turns-by goes_on arrival old mid new i m j early does anyway reads notes gives updates_anyway alone shut counted counted_after = record {
     turns = λ s fits suits.
         let acts = does s fits suits.clients in
         let between : NodeSuits g acts.after mid m = record {
           clients = goes_on.acts arrival (world_of s (places_in old) i) acts.passed (world_of acts.after (places_in mid) m) early acts.acted suits.clients;
-          noted = noted-after arrival.0.what arrival.0.moment arrival.1 (world_of s (places_in old) i) acts.passed acts.after (places_in mid) m old.idling mid.idling acts.acted notes suits.noted;
-          ready = ready-after arrival.0.what arrival.0.moment arrival.1 old.keep mid.keep (world_of s (places_in old) i) acts.passed (world_of acts.after (places_in mid) m) (places_in mid) old.idling mid.idling acts.kept notes suits.ready;
+          noted = noted-after arrival.0.moment arrival.1 old mid s i acts.passed acts.after m arrival.0.what acts.acted acts.kept fits suits notes;
+          ready = ready-after arrival.0.moment arrival.1 old mid s i acts.passed acts.after m arrival.0.what reads acts.kept notes suits.ready;
         } in
         let updated = gives acts.after acts.fits between in
         record {

@@ -15,21 +15,13 @@ use Rattle.imap_states.specs.Replies.{updated, update_said}
 use Rattle.imap_states.specs.States as states
 use Rattle.node_serve.specs.Laws.{UpdatesOnce}
 use Rattle.node_serve.specs.Updates.{connection_limit, idles, idles_if, EachBelow, IfIdles, said_update, UpdateAct, UpdateBy, UpdateAt, IsTold, AllTold}
-use Rattle.node_serve.specs.World.{NodeState, Around, outside_at, closed_if, closed_at_if}
+use Rattle.node_serve.specs.World.{NodeState, outside_at}
 use Rattle.node_serve.specs.declared.session.Session.{Session}
 use Rattle.node_serve.specs.declared.session.Session.TheVariants as session
 use Rattle.node_serve.proofs.Counting.{this-or, update-cases}
-use Rattle.node_serve.proofs.PlainUpdates.{update-kept, update-standing}
-
--- Connections have numbers below the limit,
-below-limit : (c : ℕ) → c < 4294967296 → c < connection_limit
-unfolding connection_limit
-below-limit c less = less
-
--- and no others.
-limit-below : (c : ℕ) → c < connection_limit → c < 4294967296
-unfolding connection_limit
-limit-below c less = less
+use Rattle.node_serve.proofs.Later.{update-stands}
+use Rattle.node_serve.proofs.PlainUpdates.{update-kept}
+use Rattle.node_serve.proofs.Updating.{around-same}
 
 -- After an update the door's session is closed, or its client knows what is there.
 door-next : (a : Archive) (client : ImapClient) (way : Departure) → ((idling.said_update a client way).next ≡ None) ⊎ ((idling.said_update a client way).next ≡ Some (idling.updated_client a client))
@@ -87,7 +79,7 @@ module _ (laws : ImapLaws) where
     where
       by : ((v ≡ w) × (idles_if (w.session c) ≡ false)) ⊎ ((start : Session) × (w.session c ≡ Some start) × (idles start ≡ true) × UpdateAct start c w v) → IsTold v.standing (v.session c)
       by (inl still) = λ start is idle. absurd (false≢true (sym (ap (λ (x : NodeState). idles_if (x.session c)) still.0 ∙ still.1) ∙ ap idles_if is ∙ idle))
-      by (inr told) = told-same w.standing v.standing (v.session c) (v.session c) (update-standing c w v update) refl (act-told told.0 c w v told.2 told.3)
+      by (inr told) = told-same w.standing v.standing (v.session c) (v.session c) (update-stands c w v (w.session c) update) refl (act-told told.0 c w v told.2 told.3)
 
   -- After updates none of the connections below the number has more to be told.
   each-told : (n : ℕ) (w v : NodeState) → EachBelow UpdateAt n w v → (c : ℕ) → c < n → IsTold v.standing (v.session c)
@@ -96,23 +88,11 @@ module _ (laws : ImapLaws) where
     where
       by : (c < n → IsTold each.0.standing (each.0.session c)) → (c ≡ n) ⊎ (c ≢ n) → IsTold v.standing (v.session c)
       by below (inl same) = subst (λ (d : ℕ). IsTold v.standing (v.session d)) (sym same) (update-told n each.0 v each.2)
-      by below (inr apart) = told-same each.0.standing v.standing (each.0.session c) (v.session c) (update-standing n each.0 v each.2) (update-kept n each.0 v each.2 c apart) (below (omega (arith, less, apart)))
+      by below (inr apart) = told-same each.0.standing v.standing (each.0.session c) (v.session c) (update-stands n each.0 v (each.0.session n) each.2) (update-kept n each.0 v each.2 c apart) (below (omega (arith, less, apart)))
 
   -- So it is with all connections.
   all-told : (w v : NodeState) → EachBelow UpdateAt connection_limit w v → AllTold v
-  all-told w v each c less = each-told connection_limit w v each c (below-limit c less)
-
--- An act that says nothing leaves everything around the connection.
-around-same : (c : ℕ) (start : Session) (w : NodeState) → w.session c ≡ Some start → Around c w w
-around-same c start w held = record {
-  sessions = λ d other. refl;
-  taken = λ d other. refl;
-  closings = λ d other. refl;
-  closed = sym (ap (λ (x : Option Session). closed_if x (w.out.closings c)) held);
-  count = refl;
-  closed_at = sym (ap (λ (x : Option Session). closed_at_if x (w.out.taken c) (w.out.closed_at c)) held);
-  closed_at_others = λ d other. refl;
-}
+  all-told w v each = each-told connection_limit w v each
 
 -- To do nothing is the act of an update, where there is nothing to be told.
 act-nothing : (start : Session) (c : ℕ) (w : NodeState) → w.session c ≡ Some start → said_update w.standing start Plain ≡ silent w.standing start → UpdateAct start c w w
@@ -143,7 +123,7 @@ each-nothing (suc c) w told = (w, each-nothing c w (λ d less. told d (omega (ar
 
 -- The same for all connections.
 all-nothing : (w : NodeState) → AllTold w → EachBelow UpdateAt connection_limit w w
-all-nothing w told = each-nothing connection_limit w (λ c less. told c (limit-below c less))
+all-nothing w told = each-nothing connection_limit w told
 
 -- So updates are told once.
 pub updates-once : ImapLaws → UpdatesOnce

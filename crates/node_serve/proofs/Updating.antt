@@ -36,21 +36,25 @@ pub update-still : (o : Option Session) (c : ℕ) (w : NodeState) → idles_if o
 update-still None c w none = refl
 update-still (Some start) c w none = subst (λ (t : Bool). IfIdles t (UpdateAct start c w w) w w) (sym none) refl
 
+-- Nothing changed around a connection whose session stays open.
+pub around-same : (c : ℕ) (start : Session) (w : NodeState) → w.session c ≡ Some start → Around c w w
+around-same c start w here = record {
+  sessions = λ d other. refl;
+  taken = λ d other. refl;
+  closings = λ d other. refl;
+  closed = sym (ap (λ (x : Option Session). closed_if x (w.out.closings c)) here);
+  count = refl;
+  closed_at = sym (ap (λ (x : Option Session). closed_at_if x (w.out.taken c) (w.out.closed_at c)) here);
+  closed_at_others = λ d other. refl;
+}
+
 -- Where nothing changed, that is what may change around a connection.
 around-still : (o : Option Session) (c : ℕ) (w : NodeState) → w.session c ≡ o → IfIdles (idles_if o) (Around c w w) w w
 around-still None c w here = refl
 around-still (Some start) c w here = by (idles start)
   where
     by : (t : Bool) → IfIdles t (Around c w w) w w
-    by true = record {
-      sessions = λ d other. refl;
-      taken = λ d other. refl;
-      closings = λ d other. refl;
-      closed = sym (ap (λ (x : Option Session). closed_if x (w.out.closings c)) here);
-      count = refl;
-      closed_at = sym (ap (λ (x : Option Session). closed_at_if x (w.out.taken c) (w.out.closed_at c)) here);
-      closed_at_others = λ d other. refl;
-    }
+    by true = around-same c start w here
     by false = refl
 
 -- So it is for all connections.
@@ -80,13 +84,13 @@ around-next w m v n c k same low each here =
     subst (λ (x : ℕ). EachBelow AroundAt (x + 1) w v) (sym same) (each-next AroundAt w m v n c low each (λ d from below. around-still (m.session d) d m refl) here)
 
 -- Updates up to a number from which on no session idles are all.
-pub updates-end : (w v : NodeState) (n : ℕ) → n ≤ 4294967296 → EachBelow UpdateAt n w v → ((c : ℕ) → n ≤ c → c < 4294967296 → idles_if (v.session c) ≡ false) → EachBelow UpdateAt connection_limit w v
+pub updates-end : (w v : NodeState) (n : ℕ) → n ≤ connection_limit → EachBelow UpdateAt n w v → ((c : ℕ) → n ≤ c → c < connection_limit → idles_if (v.session c) ≡ false) → EachBelow UpdateAt connection_limit w v
 updates-end w v n low each none =
-    each-to UpdateAt connection_limit n w v (omega (arith, limit-is, low)) each (λ c from below. update-still (v.session c) c v (none c from (omega (arith, limit-is, below))))
+    each-to UpdateAt connection_limit n w v low each (λ c from below. update-still (v.session c) c v (none c from below))
 
 -- The same of what they change.
-pub around-end : (w v : NodeState) (n : ℕ) → n ≤ 4294967296 → EachBelow AroundAt n w v → EachBelow AroundAt connection_limit w v
-around-end w v n low each = each-to AroundAt connection_limit n w v (omega (arith, limit-is, low)) each (λ c from below. around-still (v.session c) c v refl)
+pub around-end : (w v : NodeState) (n : ℕ) → n ≤ connection_limit → EachBelow AroundAt n w v → EachBelow AroundAt connection_limit w v
+around-end w v n low each = each-to AroundAt connection_limit n w v low each (λ c from below. around-still (v.session c) c v refl)
 
 -- One of two tests.
 or-left : (a b : Bool) → a ≡ true → (a || b) ≡ true
@@ -121,13 +125,13 @@ none-below zero session none = refl
 none-below (suc n) session none = or-none (idles_below n session) (idles_if (session n)) (none-below n session (λ c below. none c (omega (arith, below)))) (none n (omega arith))
 
 -- The same of all connections.
-pub one-idles : (session : ℕ → Option Session) (c : ℕ) → c < 4294967296 → idles_if (session c) ≡ true → any_idles session ≡ true
+pub one-idles : (session : ℕ → Option Session) (c : ℕ) → c < connection_limit → idles_if (session c) ≡ true → any_idles session ≡ true
 unfolding any_idles
-one-idles session c low on = one-below connection_limit c session (omega (arith, limit-is, low)) on
+one-idles session c low on = one-below connection_limit c session low on
 
-pub none-idles : (session : ℕ → Option Session) → ((c : ℕ) → c < 4294967296 → idles_if (session c) ≡ false) → any_idles session ≡ false
+pub none-idles : (session : ℕ → Option Session) → ((c : ℕ) → c < connection_limit → idles_if (session c) ≡ false) → any_idles session ≡ false
 unfolding any_idles
-none-idles session none = none-below connection_limit session (λ c below. none c (omega (arith, limit-is, below)))
+none-idles session none = none-below connection_limit session none
 
 -- The update of a session that idles is what its act says, and what is around it.
 pub update-acted : (c : ℕ) (start left : Session) (goes_on : Bool) (a : Archive) (p q : OpenSessions) (i j : HostState) → idles_if (p.session c) ≡ true → p.session c ≡ Some start → q.session c ≡ held_if goes_on left

@@ -8,3 +8,4 @@ pub mod Ends
 pub mod Nodes
 pub mod Hosted
 pub mod Laws
+pub mod Notes

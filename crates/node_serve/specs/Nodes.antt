@@ -38,7 +38,7 @@ use Rattle.node_serve.specs.Updates.{connection_limit, idles_if, any_idles, Each
 use Rattle.node_serve.specs.World.{HostState, NodeState, ActAt, Around, outside_at, others_open, one_if, with_disk}
 use Rattle.node_serve.specs.declared.session.Session.{Session}
 use Rattle.node_serve.specs.declared.updates.Idling.{Idling}
-use Rattle.node_serve.specs.declared.updates.Idling.TheVariants.{Nobody, Told, Untold}
+use Rattle.node_serve.specs.declared.updates.Idling.TheVariants.{Told}
 use Rattle.node_serve.specs.declared.session.Session.TheVariants as kind
 use Rattle.node_serve.specs.declared.serving.ServeEnd.{ServeEnd}
 use Rattle.node_serve.specs.declared.serving.Taken.{Taken}
@@ -166,23 +166,10 @@ UpdatesAnyway true p i q j = (s : LastKnown) (disk : ℕ)
 UpdatesAnyway false p i q j = (s : LastKnown) (disk : ℕ) → EachBelow AroundAt connection_limit
     (world_of s p (with_disk disk i)) (world_of s q (with_disk disk j))
 
--- What is noted of sessions that idle after the acts of what happened, by what was noted before them and the
--- sessions after them: a note stays where the session of the connection doesn't idle, but that a piece may
--- have changed what others are to be told.
-abbrev pub NotesAfter : What → Idling → OpenSessions → Idling → Type 0
-NotesAfter (what.Opened c door) before p after =
-    ((after ≡ before) × (idles_if (p.session c) ≡ false)) ⊎ (after ≡ Untold)
-NotesAfter (what.Bytes c len) before p after =
-    ((after ≡ Nobody) × (before ≡ Nobody) × (idles_if (p.session c) ≡ false)) ⊎ (after ≡ Untold)
-NotesAfter (what.Ended c) before p after =
-    ((after ≡ before) × (idles_if (p.session c) ≡ false)) ⊎ (after ≡ Untold)
-NotesAfter what.Quiet before p after = after ≡ before
-NotesAfter what.Stop before p after = after ≡ before
-
 -- The least connection with a number from the given one on whose session idles, if there is one.
 abbrev pub IsLeastIdle : OpenSessions → ℕ → Option ℕ → Type 0
-IsLeastIdle p from None = (c : ℕ) → from ≤ c → c < 4294967296 → idles_if (p.session c) ≡ false
-IsLeastIdle p from (Some n) = (from ≤ n) × (n < 4294967296) × (idles_if (p.session n) ≡ true)
+IsLeastIdle p from None = (c : ℕ) → from ≤ c → c < connection_limit → idles_if (p.session c) ≡ false
+IsLeastIdle p from (Some n) = (from ≤ n) × (n < connection_limit) × (idles_if (p.session n) ≡ true)
     × ((c : ℕ) → from ≤ c → c < n → idles_if (p.session c) ≡ false)
 
 -- A node and what is outside of it, between two turns.

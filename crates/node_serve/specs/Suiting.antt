@@ -5,7 +5,7 @@ use Rattle.arch_model.specs.Archives.{Archive}
 use Rattle.arch_model.specs.Validity.{IsArchive}
 use Rattle.imap_states.specs.States.{SuitsClient}
 use Rattle.known_uids.specs.Staying.{GoneStay}
-use Rattle.node_serve.specs.Updates.{idles_if, AllTold}
+use Rattle.node_serve.specs.Updates.{idles_if, connection_limit, AllTold}
 use Rattle.node_serve.specs.World.{NodeState}
 use Rattle.node_serve.specs.declared.updates.Idling.{Idling}
 use Rattle.node_serve.specs.declared.updates.Idling.TheVariants.{Nobody, Told, Untold}
@@ -36,6 +36,6 @@ pub record ClientsSuit (w : NodeState) : Type 0 where
 -- What a node notes of sessions that idle is so: none does; or none of them has more to be told, and nothing
 -- is in doubt.
 abbrev pub NotedIs : Idling → NodeState → Type 0
-NotedIs Nobody w = (c : ℕ) → c < 4294967296 → idles_if (w.session c) ≡ false
+NotedIs Nobody w = (c : ℕ) → c < connection_limit → idles_if (w.session c) ≡ false
 NotedIs Told w = AllTold w × (w.standing.in_doubt ≡ None)
 NotedIs Untold w = Unit {0}

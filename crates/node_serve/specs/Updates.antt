@@ -92,14 +92,14 @@ abbrev pub EachIf : Bool → NodeState → NodeState → Type 0
 EachIf true w v = EachBelow UpdateAt connection_limit w v
 EachIf false w v = v ≡ w
 
--- The archive was reopened, and then each session that idles was given its update. `reopened` is how the
--- archive stood after the reopening. No update changes that.
+-- The archive was reopened, which left the world `refreshed`, and then each session that idles was given its
+-- update. `reopened` is how the archive stood after the reopening. No update changes that.
 pub record UpdatedThrough (w : NodeState) (reopened : List LastKnown) (v : NodeState) : Type 0 where
   pub opened : Bool
-  pub between : NodeState
-  pub reopening_is : ReopenedFor opened w between
-  pub each : EachIf opened between v
-  pub reopened_is : reopened ≡ between.standing ∷ []
+  pub refreshed : NodeState
+  pub reopening_is : ReopenedFor opened w refreshed
+  pub each : EachIf opened refreshed v
+  pub reopened_is : reopened ≡ refreshed.standing ∷ []
 
 -- This is done where a session idles. Else there is nothing to do, and no archive is reopened.
 abbrev pub UpdatedIf : Bool → NodeState → List LastKnown → NodeState → Type 0
@@ -118,4 +118,4 @@ IsTold s held = (start : Session) → held ≡ Some start → idles start ≡ tr
 
 -- No session that idles has more to be told.
 abbrev pub AllTold : NodeState → Type 0
-AllTold w = (c : ℕ) → c < 4294967296 → IsTold w.standing (w.session c)
+AllTold w = (c : ℕ) → c < connection_limit → IsTold w.standing (w.session c)

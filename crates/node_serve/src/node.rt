@@ -5,11 +5,12 @@ ghost use Rattle.arch_base.specs.Moments.{last_moment};
 ghost use Rattle.edge_io.specs.Events.{piece_len};
 ghost use Rattle.node_serve.specs.Ends.{is_stop as stops};
 ghost use Rattle.node_serve.specs.Hosted.{EventsStay, TurnsAt, ActsAt, ActsAnywayAt, UpdatesAt, UpdatesAnywayAt};
-ghost use Rattle.node_serve.specs.Nodes.{LeftAlone, NotesAfter, ReadsForEvent, places_in};
+ghost use Rattle.node_serve.specs.Nodes.{LeftAlone, ReadsForEvent, places_in};
+ghost use Rattle.node_serve.specs.Notes.{NotesAfter};
 
 use crate::laws::suiting_law;
 use crate::places::{Sessions, admit, end, feed};
-use crate::updates::{Idling, noted, noted_after_piece, update_all};
+use crate::updates::{Idling, noted, noted_through, update_all};
 use arch_model::Keep;
 use edge_io::{Event, Host, What};
 use std::alloc::Global;
@@ -122,8 +123,7 @@ impl<K: Keep> Node<K> {
             host.new }
         ensures reads { ReadsForEvent K.Keep event.now.moment event.now.what piece.now
             self.old self.new }
-        ensures noted { NotesAfter event.now.what self.old.idling (places_in self.new)
-            self.new.idling }
+        ensures noted { NotesAfter event.now.what self.old self.new }
         ensures later { K.faults self.old.keep ≤ K.faults self.new.keep }
         ensures events { EventsStay H.Host host.old host.new }
     {
@@ -135,6 +135,7 @@ impl<K: Keep> Node<K> {
             }
             What::Bytes { conn, .. } => {
                 let moment = event.moment;
+                let through = noted_through(self.idling, conn, &self.sessions);
                 feed(
                     conn,
                     moment,
@@ -143,7 +144,7 @@ impl<K: Keep> Node<K> {
                     &mut self.sessions,
                     host,
                 );
-                self.idling = noted_after_piece(self.idling, conn, &self.sessions);
+                self.idling = noted(through, conn, &self.sessions);
             }
             What::Ended { conn } => {
                 end(conn, &mut self.sessions);

@@ -12,6 +12,7 @@ ghost use Rattle.node_serve.specs.Hosted.{ElsewhereStays};
 ghost use Rattle.node_serve.specs.World.{at_host, outside_at};
 ghost use Rattle.node_serve.specs.Doors.{door_of as door_of_session, unopened_words, with_piece};
 ghost use Rattle.node_serve.specs.Nodes.{ReopensForPiece, AnswersPiece, FedFrom, ReadsAt};
+ghost use Rattle.node_serve.specs.Notes.{reads_only};
 ghost use Rattle.node_serve.specs.Suiting.{SessionSuits};
 ghost use Rattle.node_serve.specs.Updates.{idles, said_update};
 
@@ -51,6 +52,20 @@ impl Session {
         match self {
             Session::Imap(client) => client.is_idle(),
             _ => false,
+        }
+    }
+
+    /// Returns whether the session's door only reads, so that no piece changes the archive.
+    pub(crate) fn only_reads(&self) -> bool
+        ensures { result ≡ reads_only self.now }
+    {
+        match self {
+            Session::Control(_) => false,
+            Session::News(_) => true,
+            Session::Pop(_) => true,
+            Session::Http(_) => true,
+            Session::Lmtp(_) => false,
+            Session::Imap(_) => true,
         }
     }
 }

@@ -1,10 +1,11 @@
 //! What sessions that idle are told after each event (RFC 2177).
 //! Writes the disk; syncs.
-ghost use Rattle.std.specs.Prelude.{◌≡◌, ◌≤◌, ◌⊎◌, ℕ, true, false, None};
+ghost use Rattle.std.specs.Prelude.{◌≡◌, ◌≤◌, ℕ, true, false, None};
 ghost use Rattle.arch_model.specs.Archives.{Archive};
 ghost use Rattle.arch_model.specs.Standing.{LastKnown, standing};
 ghost use Rattle.node_serve.specs.Hosted.{EventsStay, UpdatesAt, UpdatesAnywayAt};
 ghost use Rattle.node_serve.specs.Nodes.{AroundAt, IsLeastIdle, LeftAlone, places_of, serving, world_of};
+ghost use Rattle.node_serve.specs.Notes.{NoteStays, note_through, reads_only_if};
 ghost use Rattle.node_serve.specs.Suiting.{SessionSuitsIf};
 ghost use Rattle.node_serve.specs.Updates.{EachBelow, UpdateAt, connection_limit, idles_if};
 ghost use Rattle.node_serve.specs.World.{at_host};
@@ -28,9 +29,7 @@ pub enum Idling {
 
 /// Returns what is noted after the session of a connection changed, and nothing else did.
 pub(crate) fn noted(idling: Idling, conn: u32, sessions: &Sessions) -> Idling
-    ensures { ((result ≡ idling)
-        × (idles_if ((places_of sessions.now.entries).session conn) ≡ false))
-        ⊎ (result ≡ Idling.Untold) }
+    ensures { NoteStays idling ((places_of sessions.now.entries).session conn) result }
 {
     if idles_at(conn, sessions) {
         return Idling::Untold;
@@ -38,16 +37,31 @@ pub(crate) fn noted(idling: Idling, conn: u32, sessions: &Sessions) -> Idling
     idling
 }
 
-/// Returns what is noted after a piece, which may have changed what others are to be told.
-pub(crate) fn noted_after_piece(idling: Idling, conn: u32, sessions: &Sessions) -> Idling
-    ensures { ((result ≡ Idling.Nobody) × (idling ≡ Idling.Nobody)
-        × (idles_if ((places_of sessions.now.entries).session conn) ≡ false))
-        ⊎ (result ≡ Idling.Untold) }
+/// Returns what is noted of others after a piece that comes to a connection. It may change what they are
+/// to be told, unless the door only reads.
+pub(crate) fn noted_through(idling: Idling, conn: u32, sessions: &Sessions) -> Idling
+    ensures { result ≡ note_through idling
+        (reads_only_if ((places_of sessions.now.entries).session conn)) }
 {
     match idling {
-        Idling::Nobody => noted(Idling::Nobody, conn, sessions),
-        Idling::Told => Idling::Untold,
+        Idling::Nobody => Idling::Nobody,
+        Idling::Told => {
+            if only_reads_at(conn, sessions) {
+                return Idling::Told;
+            }
+            Idling::Untold
+        }
         Idling::Untold => Idling::Untold,
+    }
+}
+
+/// Returns whether a piece that comes to a connection at most reads.
+fn only_reads_at(conn: u32, sessions: &Sessions) -> bool
+    ensures { result ≡ reads_only_if ((places_of sessions.now.entries).session conn) }
+{
+    match sessions.get(&conn) {
+        None => true,
+        Some(session) => session.only_reads(),
     }
 }
 
@@ -147,8 +161,9 @@ fn update_each<S: Shelf, H: Host>(shelf: &S, sessions: &mut Sessions, host: &mut
 }
 
 /// Returns the least connection with a number from the given one on whose session idles.
+#[tactic(auto, unfolding(crate::specs::Updates::connection_limit))]
 fn next_idle(sessions: &Sessions, from: u64) -> Option<u32>
-    requires { from ≤ 4294967296 }
+    requires { from ≤ connection_limit }
     ensures { IsLeastIdle (places_of sessions.now.entries) from result }
 {
     let mut next = u32::try_from(from).ok()?;

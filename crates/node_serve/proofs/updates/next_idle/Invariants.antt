@@ -1,6 +1,6 @@
 use Rattle.std.proofs.Common.{◌≡◌, ◌≤◌, ◌<◌, ◌-◌, ℕ, false}
 use Rattle.node_serve.specs.Nodes.{session_of}
-use Rattle.node_serve.specs.Updates.{idles_if}
+use Rattle.node_serve.specs.Updates.{idles_if, connection_limit}
 use Rattle.node_serve.proofs.updates.next_idle.Given as goal
 
 abbrev pub invariant-loop-conn : goal.invariant-loop-conn
@@ -10,4 +10,4 @@ invariant-loop-conn l = record {
 }
 
 abbrev pub decreases-loop-conn : goal.decreases-loop-conn
-decreases-loop-conn l = 4294967296 - l.next
+decreases-loop-conn l = connection_limit - l.next

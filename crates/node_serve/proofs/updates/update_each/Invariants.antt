@@ -4,7 +4,7 @@ use Rattle.arch_model.specs.Standing.{LastKnown, standing}
 use Rattle.node_serve.specs.Hosted.{EventsStay}
 use Rattle.node_serve.specs.Nodes.{AroundAt, places_of, session_of, world_of}
 use Rattle.node_serve.specs.Suiting.{SessionSuitsIf}
-use Rattle.node_serve.specs.Updates.{EachBelow, UpdateAt}
+use Rattle.node_serve.specs.Updates.{EachBelow, UpdateAt, connection_limit}
 use Rattle.node_serve.specs.World.{at_host}
 use Rattle.node_serve.proofs.updates.update_each.Given as goal
 
@@ -21,8 +21,8 @@ invariant-loop-conn g l = record {
       (world_of s (places_of l.fn.sessions.entries) (at_host g.H.Host l.fn.host disk))
       (world_of s (places_of l.sessions.entries) (at_host g.H.Host l.host disk));
   events : EventsStay g.H.Host l.fn.host l.host;
-  low : l.from ≤ 4294967296;
+  low : l.from ≤ connection_limit;
 }
 
 abbrev pub decreases-loop-conn : goal.decreases-loop-conn
-decreases-loop-conn g l = 4294967296 - l.from
+decreases-loop-conn g l = connection_limit - l.from

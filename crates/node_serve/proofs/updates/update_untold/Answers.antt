@@ -1,11 +1,12 @@
 use Rattle.std.proofs.Common.{refl, arith}
 use Rattle.std.proofs.lemmas.Bool.{false≢true}
 use Rattle.arch_model.specs.KeeperRecord.{keeper}
-use Rattle.node_serve.specs.Nodes.{places_of, session_of}
+use Rattle.node_serve.specs.Nodes.{places_of, session_of, world_of}
 use Rattle.node_serve.specs.World.{at_host}
 use Rattle.node_serve.specs.declared.updates.Idling.TheVariants.{Untold}
 use Rattle.node_serve.proofs.Updating.{each-still, one-idles}
-use Rattle.node_serve.proofs.Refreshing.{found-suits, left-alone, updates-none, updates-given, updates-refused}
+use Rattle.node_serve.proofs.ImapDoor.{found-suits}
+use Rattle.node_serve.proofs.Refreshing.{left-alone, updates-none, updates-given, updates-refused}
 use Rattle.node_serve.proofs.updates.update_untold.Goals as goal
 
 pub returns-in-None-clause-updated : goal.returns-in-None-clause-updated
@@ -27,7 +28,7 @@ returns-in-Ok-clause-updated g c = λ s fits suits.
     let held = found.1.fits.settled c.in-Ok.ensures.ready in
     updates-given (keeper g.K.Shelf g.K.Keep) s c.args.keep.now p i c.fresh.new.self Untold (one-idles (session_of p) c.in-Some.field-0 least.1 least.2) found.0 c.update_each.new.sessions.entries j c.update_law.ensures found.1 found.2 (λ stale. found.3 stale) c.in-Ok.ensures.ready
     (λ at_hand. (c.in-Ok.ensures.nothing at_hand).1) (λ at_hand. (fits.settled at_hand).1) (c.in-Ok.ensures.crash s fits) c.in-Ok.ensures.cause refl
-    (c.update_each.ensures.updated found.0.archive now held.0 (found-suits s (places_of p) i found.0.archive found.2.found suits.clients))
+    (c.update_each.ensures.updated found.0.archive now held.0 (found-suits (world_of s (places_of p) i) found.0.archive found.2.found suits.clients))
 
 pub returns-in-Ok-clause-alone : goal.returns-in-Ok-clause-alone
 returns-in-Ok-clause-alone g c =

@@ -9,7 +9,7 @@ returns-in-Opened-clause-acted g c = rw (← c.self.view_is) (λ s fits suit.
     acts-still (keeper g.K.Shelf g.K.Keep) (c.args.event.now, c.args.piece.now) s c.self.inside.keep c.self.inside.sessions.entries c.admit.new.sessions.entries c.self.inside.idling c.noted-self-inside.result _ _ fits (rw c.in-Opened.is (c.admit.ensures.made (g.K.Shelf.faults c.self.inside.keep) s, refl)) (rw c.in-Opened.is refl))
 
 pub returns-in-Bytes-clause-acted : goal.returns-in-Bytes-clause-acted
-returns-in-Bytes-clause-acted g c = rw (← c.self.view_is, c.in-Bytes.is) (c.feed.ensures.acted _ c.self.inside.idling c.noted_after_piece-self-inside.result)
+returns-in-Bytes-clause-acted g c = rw (← c.self.view_is, c.in-Bytes.is) (c.feed.ensures.acted _ c.self.inside.idling c.noted-self-inside-in-Bytes.result)
 
 pub returns-in-Ended-clause-acted : goal.returns-in-Ended-clause-acted
 returns-in-Ended-clause-acted g c = rw (← c.self.view_is) (λ s fits suit.
@@ -30,7 +30,7 @@ returns-in-Opened-clause-anyway g c = rw (← c.self.view_is, c.in-Opened.is) (r
 })
 
 pub returns-in-Bytes-clause-anyway : goal.returns-in-Bytes-clause-anyway
-returns-in-Bytes-clause-anyway g c = rw (← c.self.view_is, c.in-Bytes.is) (c.feed.ensures.anyway _ c.self.inside.idling c.noted_after_piece-self-inside.result)
+returns-in-Bytes-clause-anyway g c = rw (← c.self.view_is, c.in-Bytes.is) (c.feed.ensures.anyway _ c.self.inside.idling c.noted-self-inside-in-Bytes.result)
 
 pub returns-in-Ended-clause-anyway : goal.returns-in-Ended-clause-anyway
 returns-in-Ended-clause-anyway g c = rw (← c.self.view_is, c.in-Ended.is) (record {
@@ -69,7 +69,7 @@ pub returns-in-Opened-clause-noted : goal.returns-in-Opened-clause-noted
 returns-in-Opened-clause-noted g c = rw (← c.self.view_is, c.in-Opened.is) c.noted-self-inside.ensures
 
 pub returns-in-Bytes-clause-noted : goal.returns-in-Bytes-clause-noted
-returns-in-Bytes-clause-noted g c = rw (← c.self.view_is, c.in-Bytes.is) c.noted_after_piece-self-inside.ensures
+returns-in-Bytes-clause-noted g c = rw (← c.self.view_is, c.in-Bytes.is, ← c.noted_through-through.ensures) c.noted-self-inside-in-Bytes.ensures
 
 pub returns-in-Ended-clause-noted : goal.returns-in-Ended-clause-noted
 returns-in-Ended-clause-noted g c = rw (← c.self.view_is, c.in-Ended.is) c.noted-self-inside-in-Ended.ensures
