@@ -34,7 +34,7 @@ use Rattle.store_finding.specs.declared.finding.Found.{Found}
 use Rattle.store_finding.specs.Files.{map_file_of, epoch_file_of, as_read}
 use Rattle.store_finding.specs.Finding.{FindsStore, IsFoundIn, IsCurrentRoot, IsDamagedFile}
 use Rattle.store_finding.specs.Joined.{AreBefore}
-use Rattle.epoch_store.specs.Laws.{RecoversOne}
+use Rattle.epoch_store.specs.Laws.{RecoversOne, OpenedStands}
 use Rattle.store_finding.specs.Openings.{archive_of, cache_in, HasMap, OpenedRecovers, RecoversUndamaged}
 use Rattle.epoch_store.specs.Opens.{RecoversOfWith, AllRecoverWith, ReadsWith, OpensFiles, OpensNone, IsOpenedIn, IsWant, IsOnlySynced, SyncsBy, OnSynced}
 use Rattle.epoch_store.specs.Reads.{HasTexts}
@@ -100,6 +100,14 @@ module _ (found : Found) (files : Files) (is : IsFoundIn files found) where
       let read = opened found.root files is.records is.read.entries map is.read.opened in
       let same : archive_of found.root is.read.entries ≡ a = one files (archive_of found.root is.read.entries) a (cache_in found.root files) cache (found.root, read) (found.root, r) in
       is.read.kept_are ∙ ap (λ (b : Archive). stored_after [] b.entries) same
+
+-- Files of which a store is opened stand for an archive that it keeps.
+pub opened_stands : OpenedRecovers → OpenedStands
+opened_stands opened files v is =
+    let there = current_has v.slot (spelling v.root) (files root_name) is.root.current in
+    let map : HasMap v.root files is.records = record { is_root = is.root.is_root; fits = is.root.fits; current = there; count = is.has.count; begins = is.has.begins } in
+    let r = opened v.root files is.records is.read.entries map is.read.opened in
+    (archive_of v.root is.read.entries, (v.root, r), record { valid = r.valid; names = r.names; kept = is.read.kept_are })
 
 -- The texts of what was found of an archive.
 abbrev pub texts_found : Found → List ℕ → Archive → Texts
