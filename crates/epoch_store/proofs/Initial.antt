@@ -86,7 +86,7 @@ no_end config true kind.Map n = by (n == 0) where
   by false = refl
 no_end config true kind.Epoch n = elim (cases_lt n 64) [
   | inl below ↦ ap (λ (p : Place). p.length) (first_place config n below)
-  | inr above ↦ ap (λ (p : Place). p.length) (get_or_past (first_root_of config).epochs n no_place (let size = length-replicate {A = Place} 64 no_place in omega (arith, above, size)))
+  | inr above ↦ ap (λ (p : Place). p.length) (get_or_past (first_root_of config).epochs n no_place (let size : length (first_root_of config).epochs ≡ 64 = length-replicate {A = Place} 64 no_place in omega (arith, above, size)))
 ]
 no_end config true kind.Cache n = by (n == 0) where
   by : (b : Bool) → (if b then (first_root_of config).cache else no_place).length ≡ 0
