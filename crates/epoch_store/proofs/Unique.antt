@@ -58,13 +58,15 @@ caches_one spellings image a (Some b) c d p q =
 
 -- Files that are exactly those of an archive stand for it.
 pub exact_recovers : ExactRecovers
-exact_recovers cache files a p =
-    (p.0, record {
-      valid = p.1.valid;
-      names = p.1.names;
-      cache_fits = p.1.cache_fits;
-      stands = exact_stands p.0 (texts_of p.0 (parts_of a cache)) files (texts_measure p.0 a cache p.1.valid p.1.names p.1.cache_fits) p.1.exact;
-    })
+exact_recovers cache files a p = (
+  p.0,
+  record {
+    valid = p.1.valid;
+    names = p.1.names;
+    cache_fits = p.1.cache_fits;
+    stands = exact_stands p.0 (texts_of p.0 (parts_of a cache)) files (texts_measure p.0 a cache p.1.valid p.1.names p.1.cache_fits) p.1.exact;
+  },
+)
 
 -- A store's own disk stands for its archive.
 pub store_recovers : StoreRecovers
