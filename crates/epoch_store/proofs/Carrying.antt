@@ -39,7 +39,7 @@ module _ (v : StoreState) (cache : List ℕ) (a b : Archive) (p : Planning) (nex
     parts_are = made.parts;
     config = λ root after. after.config ∙ ((store_keeps v cache a k store).names.config ∙ sym made.config);
     next = λ root after. after.next ∙ sym made.next_is;
-    cache_long = λ root after. ap (λ (q : Place). q.length) after.cache;
+    cache_fits = λ root after. omega arith;
   }
 
   -- What a crash leaves.

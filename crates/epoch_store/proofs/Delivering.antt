@@ -104,13 +104,13 @@ module _ (v : StoreState) (a b : Archive) (cache : List ℕ) (p : NextPlace) (e 
         ∙ (sym (bytes_other a new n (λ at. apart (sym at))) ∙ ap (λ (c : Archive). bytes_in c n) made_is)
   ]
 
-  entry_next : v.root.cache.length ≡ length cache → IsNext (λ root. root ≡ root_with v.root p e) (parts_with v.root p e (parts_of a cache)) cache b
-  entry_next cache_long = record {
+  entry_next : length cache ≤ v.root.cache.length → IsNext (λ root. root ≡ root_with v.root p e) (parts_with v.root p e (parts_of a cache)) cache b
+  entry_next cache_fits = record {
     valid = enters.valid;
     parts_are = parts_are;
     config = λ root is. ap (λ (r : Root). r.config) is ∙ (keeps.names.config ∙ ap (λ (c : Archive). c.config) made_is);
     next = λ root is. ap (λ (r : Root). r.next) is ∙ (ap (λ (n : ℕ). n + numbers_by e.kind) keeps.names.next ∙ ap (λ (c : Archive). c.next) made_is);
-    cache_long = λ root is. ap (λ (r : Root). r.cache.length) is ∙ cache_long;
+    cache_fits = λ root is. (let same : root.cache.length ≡ v.root.cache.length = ap (λ (r : Root). r.cache.length) is in omega (arith, same, cache_fits));
   }
 
   entries_next : v.entries ++ stored_at a.entries new ∷ [] ≡ stored_after [] b.entries

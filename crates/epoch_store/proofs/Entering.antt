@@ -35,10 +35,10 @@ use Rattle.root_change.specs.Names.{map_name, epoch_name, place_of, has_place, n
 use Rattle.root_change.specs.Parts.{Parts, texts_of, PartsFit, RecoversPartsBy, IsOwnOfParts}
 use Rattle.root_change.specs.Replacing.{ToReplace, StandsForEither}
 use Rattle.root_change.specs.Texts.{Texts, IsOn, OnDisk, HasPartSizes, KeepsNamed}
-use Rattle.root_change.proofs.Changes.{text_named, text_unnamed, parts_measure, writing_by, to_replace, changing_by, changed}
+use Rattle.root_change.proofs.Changes.{text_named, text_unnamed, part_measure, parts_measure, writing_by, to_replace, changing_by, changed}
 use Rattle.root_change.proofs.Copies.{none_added, wrote_added}
 use Rattle.root_change.proofs.Drops.{not_both, true_or_false, named, named_map, named_epoch}
-use Rattle.root_change.proofs.Grown.{epoch_isnt_root, map_isnt_root, epoch_isnt_map, epoch_is_named, map_is_named}
+use Rattle.root_change.proofs.Grown.{epoch_no_cache, map_no_cache, epoch_isnt_root, map_isnt_root, epoch_isnt_map, epoch_is_named, map_is_named}
 use Rattle.root_change.proofs.Phases.{beside_between, beside_went}
 use Rattle.root_change.proofs.Roots.{equal_or_not, same_test, other_test, set_here, set_elsewhere}
 use Rattle.root_change.proofs.Sizes.{end_at_most, end_respects}
@@ -284,22 +284,22 @@ module _ (root : Root) (p : NextPlace) (is : p ≡ place_at root p.epoch p.paren
       ]
 
       module _ (fits : RootFits root) (room : root.sequence + 1 < 2 ^ 64) (free : ℕ) (k m : Content) (on : IsOn root free texts k) (wrote : Entered root p e k m) where
-        measured : (name : FileName) → name ≢ root_name → length (bytes_of (k name).seen) ≡ named_end root name
-        measured name apart = ap length (on.exact.ends name apart) ∙ parts_measure root parts long name apart
+        measured : (name : FileName) → name ≢ root_name → name.kind ≢ kind.Cache → length (bytes_of (k name).seen) ≡ named_end root name
+        measured name apart no_cache = ap length (on.exact.ends name apart) ∙ part_measure root parts long name no_cache
 
         -- What both files read then.
         epoch_reads : bytes_of (m epoch).seen ≡ next kind.Epoch p.epoch
         epoch_reads =
             let apart = epoch_isnt_root p.epoch p.generation in
             ap bytes_of (wrote.line.others epoch (epoch_isnt_map p.epoch p.generation root.map.generation))
-            ∙ (wrote.entry.there (measured epoch apart ∙ place_end)
+            ∙ (wrote.entry.there (measured epoch apart (epoch_no_cache p.epoch p.generation) ∙ place_end)
             ∙ (ap (λ (text : List ℕ). text ++ appended p.length e) (on.exact.ends epoch apart ∙ epoch_text) ∙ sym next_here))
 
         map_reads : bytes_of (m map).seen ≡ next kind.Map 0
         map_reads =
             let apart = map_isnt_root root.map.generation in
             let still : bytes_of (wrote.crash_between map).seen ≡ bytes_of (k map).seen = ap bytes_of (wrote.entry.others map (λ same. epoch_isnt_map p.epoch p.generation root.map.generation (sym same))) in
-            wrote.line.there (ap length still ∙ (measured map apart ∙ map_end root))
+            wrote.line.there (ap length still ∙ (measured map apart (map_no_cache root.map.generation) ∙ map_end root))
             ∙ ap (λ (text : List ℕ). text ++ line_of root p e) (still ∙ (on.exact.ends map apart ∙ text_named root parts map map_was_named))
 
         -- So what is written becomes the texts of the next root.

@@ -1,7 +1,8 @@
 -- An archive without entries, and the files that stand for it.
-use Rattle.std.specs.Prelude.{◌≡◌, ◌<◌, ◌==◌, ℕ, Bool, true, false, if◌then◌else◌, List, [], length, get_or, Option, Some, None, Ok, IsSome, ◌↔◌, refl}
+use Rattle.std.specs.Prelude.{◌≡◌, ◌<◌, ◌==◌, ℕ, Bool, true, false, if◌then◌else◌, List, [], length, take, get_or, Option, Some, None, Ok, IsSome, ◌↔◌, refl}
 use Rattle.std.proofs.Common.{◌∙◌, sym, ap, subst, inl, inr, arith}
-use Rattle.std.proofs.lemmas.List.{get_or-replicate, length-replicate}
+use Rattle.std.proofs.lemmas.Bool.{cases_lt}
+use Rattle.std.proofs.lemmas.List.{get_or-replicate, get_or_past, length-replicate}
 use Rattle.std.specs.List.{Contains}
 use Rattle.store_finding.specs.Listing.{AreAllNames}
 use Rattle.arch_base.specs.declared.config.Config.{Config}
@@ -24,8 +25,8 @@ use Rattle.root_slots.specs.Each.{IfThere}
 use Rattle.root_slots.specs.Slots.{HasFirstRoot, HasRoot, Ready, IsShutFile, EachShut}
 use Rattle.root_slots.specs.Spelling.{spelling}
 use Rattle.root_slots.specs.Valid.{PlaceFits, no_place}
-use Rattle.root_change.specs.Names.{names_file}
-use Rattle.root_change.specs.Texts.{Fronts, StandsFor}
+use Rattle.root_change.specs.Names.{place_of, names_file}
+use Rattle.root_change.specs.Texts.{counted, StandsFor}
 use Rattle.root_change.specs.Parts.{texts_of}
 use Rattle.arch_model.specs.Validity.{IsArchive}
 use Rattle.store_finding.specs.Recovery.{map_bytes, parts_of, NamesArchive}
@@ -61,10 +62,6 @@ empty_names config name valid = record {
   epochs = λ e below. ap (λ (p : Place). p.length) (first_place config e below);
 }
 
--- Each file starts with no bytes.
-no_front : (file : File) → Fronts [] file
-no_front file = record { long = omega arith; front = refl }
-
 -- Each part of an archive without entries is empty, and so is each text of the first root.
 empty_either : (b : Bool) (bytes : List ℕ) → bytes ≡ [] → (if b then bytes else []) ≡ []
 empty_either true bytes none = none
@@ -79,18 +76,38 @@ no_part config kind.Cache n = empty_either (n == 0) [] refl
 no_text : (config : Config) (name : FileName) → texts_of (first_root_of config) (parts_of (empty_archive config) []) name ≡ []
 no_text config name = empty_either (names_file (first_root_of config) name) (parts_of (empty_archive config) [] name.kind name.number) (no_part config name.kind name.number)
 
+-- No byte of a file counts by the first root.
+no_end : (config : Config) (b : Bool) (k : FileKind) (n : ℕ) → (if b then (place_of (first_root_of config) k n).length else 0) ≡ 0
+no_end config false k n = refl
+no_end config true kind.Root n = refl
+no_end config true kind.Map n = by (n == 0) where
+  by : (b : Bool) → (if b then (first_root_of config).map else no_place).length ≡ 0
+  by true = refl
+  by false = refl
+no_end config true kind.Epoch n = elim (cases_lt n 64) [
+  | inl below ↦ ap (λ (p : Place). p.length) (first_place config n below)
+  | inr above ↦ ap (λ (p : Place). p.length) (get_or_past (first_root_of config).epochs n no_place (let size : length (first_root_of config).epochs ≡ 64 = length-replicate {A = Place} 64 no_place in omega (arith, above, size)))
+]
+no_end config true kind.Cache n = by (n == 0) where
+  by : (b : Bool) → (if b then (first_root_of config).cache else no_place).length ≡ 0
+  by true = refl
+  by false = refl
+
+no_front : (config : Config) (name : FileName) (file : File) → counted (first_root_of config) name file ≡ texts_of (first_root_of config) (parts_of (empty_archive config) []) name
+no_front config name file = ap (λ (n : ℕ). take n (bytes_of file)) (no_end config (names_file (first_root_of config) name) name.kind name.number) ∙ sym (no_text config name)
+
 -- Files with the first root stand for the archive without entries.
 pub empty_stands : (config : Config) (image : Files) → IfThere (HasRoot (spelling (first_root_of config))) (image root_name) → StandsFor (first_root_of config) (texts_of (first_root_of config) (parts_of (empty_archive config) [])) image
 empty_stands config image there = record {
   current = there;
-  fronts = λ name apart. subst (λ (text : List ℕ). Fronts text (image name)) (sym (no_text config name)) (no_front (image name));
+  fronts = λ name apart. no_front config name (image name);
 }
 
 -- What a crash leaves while the root is created.
 pub makes_empty : (config : Config) (old k : Option Content) (image : Files) → IsArchiveName config.name → IsConfig config → (k ≡ None → old ≡ None) → WhereTold (λ c. IsShutFile (c root_name).seen) old → MakesRoot (spelling (first_root_of config)) k image → MakingLeaves (empty_archive config) old image
 makes_empty config old None image name valid same was makes = inl (subst (λ (o : Option Content). Image o image) (sym (same refl)) tt)
 makes_empty config old (Some k) image name valid same was (inl shut) = inr (was, inl shut)
-makes_empty config old (Some k) image name valid same was (inr there) = inr (was, inr (first_root_of config, record { valid = empty_valid config name valid; names = empty_names config name valid; cache_long = refl; stands = empty_stands config image there }))
+makes_empty config old (Some k) image name valid same was (inr there) = inr (was, inr (first_root_of config, record { valid = empty_valid config name valid; names = empty_names config name valid; cache_fits = omega arith; stands = empty_stands config image there }))
 
 -- A root that is ready is there.
 root_there : (body : List ℕ) (file : File) → IfThere (Ready 1 body) file → IfThere (HasRoot body) file
@@ -102,10 +119,10 @@ pub owns_empty : (config : Config) (k : Option Content) → IsArchiveName config
 owns_empty config None name valid fit only = tt
 owns_empty config (Some k) name valid fit only = record {
   keeps = record { valid = empty_valid config name valid; names = empty_names config name valid; kept = refl };
-  cache_long = refl;
+  cache_fits = omega arith;
   on = record {
     roots = only.roots;
-    fronts = λ other apart file fits. subst (λ (text : List ℕ). Fronts text file) (sym (no_text config other)) (no_front file);
+    fronts = λ other apart file fits. no_front config other file;
     exact = record {
       current = root_there (spelling (first_root_of config)) (k root_name).seen (only.roots (k root_name).seen (fit k refl root_name));
       ends = λ other apart. ap bytes_of (only.others other apart) ∙ sym (no_text config other);

@@ -1,5 +1,5 @@
 -- An archive that comes after another one, by a root that names its parts.
-use Rattle.std.specs.Prelude.{◌≡◌, ◌⊎◌, ◌-◌, ℕ, List, [], length, Option, Some, None}
+use Rattle.std.specs.Prelude.{◌≡◌, ◌⊎◌, ◌-◌, ◌≤◌, ℕ, List, [], length, Option, Some, None}
 use Rattle.std.proofs.Common.{sym, subst, inl, inr}
 use Rattle.disk_model.specs.declared.disk.Disk.{Ghosts as Disk}
 use Rattle.disk_model.specs.declared.name.FileKind.{FileKind}
@@ -20,13 +20,13 @@ use Rattle.epoch_store.specs.Commands.{RecoversOneOf}
 use Rattle.store_finding.proofs.FrontParts.{store_keeps, store_cache}
 
 -- Parts are those of an archive and a cache, and each root that comes after another one has its
--- settings, its next number, and the length of the cache.
+-- settings, its next number, and room for the cache.
 pub record IsNext (After : Root → Type 0) (parts : Parts) (cache : List ℕ) (b : Archive) : Type 0 where
   pub valid : IsArchive b
   pub parts_are : (k : FileKind) (n : ℕ) → parts k n ≡ parts_of b cache k n
   pub config : (root : Root) → After root → root.config ≡ b.config
   pub next : (root : Root) → After root → root.next ≡ b.next
-  pub cache_long : (root : Root) → After root → root.cache.length ≡ length cache
+  pub cache_fits : (root : Root) → After root → length cache ≤ root.cache.length
 
 module _ (After : Root → Type 0) (parts : Parts) (cache : List ℕ) (b : Archive) (is : IsNext After parts cache b) where
   same_parts : parts ≡ parts_of b cache
@@ -43,14 +43,14 @@ module _ (After : Root → Type 0) (parts : Parts) (cache : List ℕ) (b : Archi
     }
 
     recovers_next : (image : Files) → RecoversParts root parts image → RecoversWith cache image b
-    recovers_next image by = (root, record { valid = is.valid; names = names_next by.valid by.fits by.long; cache_long = is.cache_long root after; stands = subst (λ (ps : Parts). StandsFor root (texts_of root ps) image) same_parts by.stands })
+    recovers_next image by = (root, record { valid = is.valid; names = names_next by.valid by.fits by.long; cache_fits = is.cache_fits root after; stands = subst (λ (ps : Parts). StandsFor root (texts_of root ps) image) same_parts by.stands })
 
     -- What the store has that keeps its entries.
     pub store_next : (free : ℕ) (entries : List StoredEntry) (k : Option Content) → entries ≡ stored_after [] b.entries → IsOwnOfParts root (1 - free) parts k → IsStoreWith (record { root = root; slot = free; entries = entries }) cache b k
     store_next free entries None kept own = absurd own.on
     store_next free entries (Some k) kept own = record {
       keeps = record { valid = is.valid; names = names_next own.valid own.fits own.long; kept = kept };
-      cache_long = is.cache_long root after;
+      cache_fits = is.cache_fits root after;
       on = subst (λ (ps : Parts). IsOn root (1 - free) (texts_of root ps) k) same_parts own.on;
     }
 
@@ -60,6 +60,6 @@ module _ (After : Root → Type 0) (parts : Parts) (cache : List ℕ) (b : Archi
   next_leaves g disk new v old a k store leaves =
       let keeps = store_keeps v old a k store in
       weaker g disk new _ (RecoversOneOf old a cache b) leaves (λ image either. elim either [
-        | inl by ↦ inl (v.root, record { valid = keeps.valid; names = keeps.names; cache_long = store_cache v old a k store; stands = by.stands })
+        | inl by ↦ inl (v.root, record { valid = keeps.valid; names = keeps.names; cache_fits = store_cache v old a k store; stands = by.stands })
         | inr r ↦ inr (recovers_next r.0 r.1 image r.2)
       ])

@@ -24,7 +24,7 @@ use Rattle.root_slots.specs.Sizes.{spelling_length}
 use Rattle.root_slots.specs.Spelling.{spelling}
 use Rattle.root_slots.specs.Valid.{no_place}
 use Rattle.root_change.specs.Names.{named_end, named_some}
-use Rattle.root_change.specs.Texts.{Texts, StandsFor, OnDisk, Measures, Fronts}
+use Rattle.root_change.specs.Texts.{Texts, StandsFor, OnDisk, Fronts}
 use Rattle.root_change.specs.Parts.{texts_of}
 use Rattle.root_change.proofs.Phases.{current_has}
 use Rattle.root_change.proofs.Roots.{none_at_most}
@@ -34,8 +34,8 @@ use Rattle.store_finding.specs.declared.finding.Found.{Found}
 use Rattle.store_finding.specs.Files.{map_file_of, epoch_file_of, as_read}
 use Rattle.store_finding.specs.Finding.{FindsStore, IsFoundIn, IsCurrentRoot, IsDamagedFile}
 use Rattle.store_finding.specs.Joined.{AreBefore}
-use Rattle.epoch_store.specs.Laws.{RecoversOne}
-use Rattle.store_finding.specs.Openings.{archive_of, HasMap, OpenedRecovers, RecoversUndamaged}
+use Rattle.epoch_store.specs.Laws.{RecoversOne, OpenedStands}
+use Rattle.store_finding.specs.Openings.{archive_of, cache_in, HasMap, OpenedRecovers, RecoversUndamaged}
 use Rattle.epoch_store.specs.Opens.{RecoversOfWith, AllRecoverWith, ReadsWith, OpensFiles, OpensNone, IsOpenedIn, IsWant, IsOnlySynced, SyncsBy, OnSynced}
 use Rattle.epoch_store.specs.Reads.{HasTexts}
 use Rattle.store_finding.specs.Recovery.{parts_of, RecoversWith, RecoversArchiveBy}
@@ -43,7 +43,6 @@ use Rattle.epoch_store.specs.Settling.{IsFoundDisk, FoundOn, KeepsSlots, IsSettl
 use Rattle.store_finding.specs.Kept.{StoreState, IsStoreWith, InEpochs, stored_after}
 use Rattle.epoch_store.specs.Commands.{StoreHasSizes}
 use Rattle.epoch_store.proofs.TextsOpened.{fronts-kept, texts-stand}
-use Rattle.store_finding.proofs.FrontParts.{parts_front, texts_measure}
 use Rattle.epoch_store.proofs.Readying.{slots_size}
 use Rattle.store_finding.proofs.UniqueRoots.{root_is_one, not_shut}
 
@@ -66,9 +65,9 @@ sized_root : (slot : ℕ) (body : List ℕ) (file : File) → IfThere (Current s
 sized_root slot body None there = absurd there
 sized_root slot body (Some bytes) there = there.size
 
--- Files that stand for texts of the named lengths still do after the sync.
-found_so : (root : Root) (slot : ℕ) (texts : Texts) (k m : Content) → IsOnlySynced k m → IsCurrentRoot root slot (as_read k) → StandsFor root texts (as_read k) → Measures root texts → IsFoundDisk root slot texts m
-found_so root slot texts k m synced current stands measures =
+-- Files that stand for texts still do after the sync.
+found_so : (root : Root) (slot : ℕ) (texts : Texts) (k m : Content) → IsOnlySynced k m → IsCurrentRoot root slot (as_read k) → StandsFor root texts (as_read k) → IsFoundDisk root slot texts m
+found_so root slot texts k m synced current stands =
     let one : as_read m ≡ as_read k = (λ i. λ (name : FileName). synced.seen name i) in
     record {
       files_are = record {
@@ -77,7 +76,6 @@ found_so root slot texts k m synced current stands measures =
         current = subst (IfThere (Current slot (spelling root))) (sym (synced.seen root_name)) current.current;
       };
       stands = subst (StandsFor root texts) (sym one) stands;
-      measures = measures;
     }
 
 -- Files stand for an archive by their current root.
@@ -99,10 +97,17 @@ module _ (found : Found) (files : Files) (is : IsFoundIn files found) where
   kept_is : RecoversOne → OpenedRecovers → (cache : List ℕ) (a : Archive) → RecoversArchiveBy found.root cache files a → found.entries.items ≡ stored_after [] a.entries
   kept_is one opened cache a r =
       let map : HasMap found.root files is.records = record { is_root = is.root.is_root; fits = is.root.fits; current = has_root; count = is.has.count; begins = is.has.begins } in
-      let parts = parts_front found.root cache files a r in
-      let read = opened found.root files is.records is.read.entries cache map (record { long = r.cache_long; front = parts.cache_front }) is.read.opened in
-      let same : archive_of found.root is.read.entries ≡ a = one files (archive_of found.root is.read.entries) a cache cache (found.root, read) (found.root, r) in
+      let read = opened found.root files is.records is.read.entries map is.read.opened in
+      let same : archive_of found.root is.read.entries ≡ a = one files (archive_of found.root is.read.entries) a (cache_in found.root files) cache (found.root, read) (found.root, r) in
       is.read.kept_are ∙ ap (λ (b : Archive). stored_after [] b.entries) same
+
+-- Files of which a store is opened stand for an archive that it keeps.
+pub opened_stands : OpenedRecovers → OpenedStands
+opened_stands opened files v is =
+    let there = current_has v.slot (spelling v.root) (files root_name) is.root.current in
+    let map : HasMap v.root files is.records = record { is_root = is.root.is_root; fits = is.root.fits; current = there; count = is.has.count; begins = is.has.begins } in
+    let r = opened v.root files is.records is.read.entries map is.read.opened in
+    (archive_of v.root is.read.entries, (v.root, r), record { valid = r.valid; names = r.names; kept = is.read.kept_are })
 
 -- The texts of what was found of an archive.
 abbrev pub texts_found : Found → List ℕ → Archive → Texts
@@ -111,7 +116,7 @@ texts_found found cache a = texts_of found.root (parts_of a cache)
 -- What was found of an archive is found so after the sync.
 found_archive : (found : Found) (cache : List ℕ) (a : Archive) (k m : Content) → IsFoundIn (as_read k) found → RecoversArchiveBy found.root cache (as_read k) a → IsOnlySynced k m → IsFoundDisk found.root (slot_number found.slot) (texts_found found cache a) m
 found_archive found cache a k m is r synced =
-    found_so found.root (slot_number found.slot) (texts_found found cache a) k m synced is.root r.stands (texts_measure found.root a cache r.valid r.names r.cache_long)
+    found_so found.root (slot_number found.slot) (texts_found found cache a) k m synced is.root r.stands
 
 -- The view of what was found.
 abbrev pub view_of : Found → StoreState
@@ -241,7 +246,7 @@ module _ (spellings : SpellingsDiffer) where
         of_disk None on = absurd on
         of_disk (Some n) on =
             let r = by_current spellings (as_read k) cache a found.root (slot_number found.slot) reads is.root in
-            record { keeps = record { valid = r.valid; names = r.names; kept = kept_is found (as_read k) is one opened cache a r }; cache_long = r.cache_long; on = on }
+            record { keeps = record { valid = r.valid; names = r.names; kept = kept_is found (as_read k) is one opened cache a r }; cache_fits = r.cache_fits; on = on }
 
   -- While the disk is settled, files stand for an archive that they might have stood for.
   pub opening_stands : (cache : List ℕ) (may : List (Option Archive)) (found : Found) (k m : Option Content) → ReadsFit k → WhereTold (λ c. IsFoundIn (as_read c) found) k → AllRecoverWith cache may k → BothTold IsOnlySynced k m
@@ -253,7 +258,7 @@ module _ (spellings : SpellingsDiffer) where
     of_one (None, in_may, shut) = absurd (not_shut (as_read k root_name) (spelling found.root) (has_root found (as_read k) is) shut)
     of_one (Some a, in_may, recovers) =
         let r = by_current spellings (as_read k) cache a found.root (slot_number found.slot) recovers is.root in
-        (a, found_archive found cache a k m is r synced, λ image stands. (Some a, in_may, (found.root, record { valid = r.valid; names = r.names; cache_long = r.cache_long; stands = stands })))
+        (a, found_archive found cache a k m is r synced, λ image stands. (Some a, in_may, (found.root, record { valid = r.valid; names = r.names; cache_fits = r.cache_fits; stands = stands })))
 
   -- While the disk is settled, files stand for the archive as which they read.
   pub reading_stands : (found : Found) (cache : List ℕ) (a : Archive) (k m : Option Content) → WhereTold (λ c. IsFoundIn (as_read c) found) k → ReadsWith cache a k → BothTold IsOnlySynced k m
@@ -262,7 +267,7 @@ module _ (spellings : SpellingsDiffer) where
   reading_stands found cache a (Some k) None is reads synced = absurd synced
   reading_stands found cache a (Some k) (Some m) is reads synced =
       let r = by_current spellings (as_read k) cache a found.root (slot_number found.slot) reads is.root in
-      (found_archive found cache a k m is r synced, λ image stands. (found.root, record { valid = r.valid; names = r.names; cache_long = r.cache_long; stands = stands }))
+      (found_archive found cache a k m is r synced, λ image stands. (found.root, record { valid = r.valid; names = r.names; cache_fits = r.cache_fits; stands = stands }))
 
   -- Files that stand for an archive are opened.
   module _ (undamaged : RecoversUndamaged) (files : Files) (cache : List ℕ) (a : Archive) (recovers : RecoversWith cache files a) where

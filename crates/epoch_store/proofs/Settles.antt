@@ -16,7 +16,7 @@ use Rattle.root_slots.specs.Each.{IfThere}
 use Rattle.root_slots.specs.Slots.{Ready}
 use Rattle.root_slots.specs.Spelling.{spelling}
 use Rattle.root_change.specs.Names.{named_end}
-use Rattle.root_change.specs.Texts.{Texts, Fronts, StandsFor, as_read}
+use Rattle.root_change.specs.Texts.{Texts, counted, StandsFor, as_read}
 use Rattle.root_change.specs.Tidying.{Tidied, IsToTidy, ToTidy}
 use Rattle.root_change.proofs.Drops.{unnamed_apart}
 use Rattle.root_change.proofs.Phases.{current_has, settled_file}
@@ -44,15 +44,14 @@ module _ (root : Root) (slot : ℕ) (texts : Texts) (names : List FileName) wher
   readying_stands None image todo stays = absurd todo
   readying_stands (Some k) image todo stays = record {
     current = current_has slot (spelling root) (image root_name) stays.root;
-    fronts = λ name apart. subst (λ (file : File). Fronts (texts name) file) (sym (settled_file k name (image name) todo.found.files_are.settled (stays.elsewhere name apart))) (todo.found.stands.fronts name apart);
+    fronts = λ name apart. ap (counted root name) (settled_file k name (image name) todo.found.files_are.settled (stays.elsewhere name apart)) ∙ todo.found.stands.fronts name apart;
   }
 
   -- Once it is ready the files may be tidied.
   to_tidy : (k m : Content) → IsToSettle root slot texts names k → IsReadied slot (spelling root) k m → IsToTidy root (1 - slot) texts names m
   to_tidy k m todo readied = record {
     roots = λ file fits. subst (λ (f : File). IfThere (Ready (1 - slot) (spelling root)) f) (sym (settled_file m root_name file readied.settled fits)) readied.root;
-    fronts = λ name apart file fits. subst (λ (f : File). Fronts (texts name) f) (sym (settled_file m name file readied.settled fits ∙ readied.elsewhere name apart)) (todo.found.stands.fronts name apart);
-    measures = todo.found.measures;
+    fronts = λ name apart file fits. ap (counted root name) (settled_file m name file readied.settled fits ∙ readied.elsewhere name apart) ∙ todo.found.stands.fronts name apart;
     all = λ name there. elim (same_or_other root_name name) [
       | inl same ↦ subst (λ (n : FileName). Contains names n) (sym same) (todo.all root_name (some_there _ (k root_name).seen todo.found.files_are.current))
       | inr apart ↦ todo.all name (subst (λ (file : File). IsSome file) (readied.elsewhere name apart) there)

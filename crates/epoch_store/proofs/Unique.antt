@@ -10,12 +10,11 @@ use Rattle.root_slots.specs.Laws.{SpellingsDiffer}
 use Rattle.root_slots.specs.RootName.{root_name}
 use Rattle.root_slots.specs.Spelling.{spelling}
 use Rattle.root_change.specs.Parts.{texts_of}
-use Rattle.store_finding.specs.Files.{cache_file_of}
 use Rattle.epoch_store.specs.Laws.{RecoversOne, RecoversSomeOne, CachesOne, ExactRecovers, StoreRecovers}
 use Rattle.store_finding.specs.Recovery.{records_of, parts_of, RecoversArchiveBy}
 use Rattle.epoch_store.specs.Leaving.{disk_recovers}
-use Rattle.store_finding.proofs.FrontParts.{parts_front, exact_stands}
-use Rattle.store_finding.proofs.UniqueRoots.{root_is_one, not_shut, front_is_one}
+use Rattle.store_finding.proofs.FrontParts.{parts_front, exact_stands, texts_measure}
+use Rattle.store_finding.proofs.UniqueRoots.{root_is_one, not_shut}
 use Rattle.store_finding.proofs.Opened.{recovers_map, recovers_opened}
 use Rattle.store_finding.proofs.Undamaged.{whole_one}
 
@@ -55,13 +54,21 @@ caches_one spellings image a (Some b) c d p q =
     spellings p.0 q.0 p.1.names.fits q.1.names.fits p.1.names.is_root q.1.names.is_root
     (root_is_one (image root_name) (spelling p.0) (spelling q.0) p.1.stands.current q.1.stands.current) in
     let first : RecoversArchiveBy q.0 c image a = subst (λ (r : Root). RecoversArchiveBy r c image a) root p.1 in
-    front_is_one (image (cache_file_of q.0)) c d (sym first.cache_long ∙ q.1.cache_long) (parts_front q.0 c image a first).cache_front (parts_front q.0 d image b q.1).cache_front
+    sym (parts_front q.0 c image a first).cache_is ∙ (parts_front q.0 d image b q.1).cache_is
 
 -- Files that are exactly those of an archive stand for it.
 pub exact_recovers : ExactRecovers
-exact_recovers cache files a p = (p.0, record { valid = p.1.valid; names = p.1.names; cache_long = p.1.cache_long; stands = exact_stands p.0 (texts_of p.0 (parts_of a cache)) files p.1.exact })
+exact_recovers cache files a p = (
+  p.0,
+  record {
+    valid = p.1.valid;
+    names = p.1.names;
+    cache_fits = p.1.cache_fits;
+    stands = exact_stands p.0 (texts_of p.0 (parts_of a cache)) files (texts_measure p.0 a cache p.1.valid p.1.names p.1.cache_fits) p.1.exact;
+  },
+)
 
 -- A store's own disk stands for its archive.
 pub store_recovers : StoreRecovers
 store_recovers v cache a k own =
-    (λ image left. disk_recovers v cache a k image own left, (v.root, record { valid = own.keeps.valid; names = own.keeps.names; cache_long = own.cache_long; exact = own.on.exact }))
+    (λ image left. disk_recovers v cache a k image own left, (v.root, record { valid = own.keeps.valid; names = own.keeps.names; cache_fits = own.cache_fits; exact = own.on.exact }))

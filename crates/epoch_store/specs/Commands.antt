@@ -33,7 +33,7 @@ RecoversOneOf cache a left b image = RecoversWith cache image a ⊎ RecoversWith
 abbrev pub RecoversEitherWith : List ℕ → Archive → Archive → Files → Type 0
 RecoversEitherWith cache a b image = RecoversOneOf cache a cache b image
 
--- The same without a cache.
+-- The same without a byte of a cache.
 abbrev pub RecoversEither : Archive → Archive → Files → Type 0
 RecoversEither a b image = RecoversEitherWith [] a b image
 

@@ -3,8 +3,10 @@ use Rattle.std.specs.Prelude.{◌≡◌, ℕ, List, Option, Some}
 use Rattle.disk_model.specs.Disk.{Files, Content, Image}
 use Rattle.arch_model.specs.Archives.{Archive}
 use Rattle.store_finding.specs.Files.{as_read}
+use Rattle.store_finding.specs.Openings.{cache_in}
 use Rattle.store_finding.specs.Recovery.{RecoversWith, RecoversSomeWith, ExactWith}
-use Rattle.store_finding.specs.Kept.{StoreState, IsDiskWith}
+use Rattle.store_finding.specs.Kept.{StoreState, IsDiskWith, KeepsArchive}
+use Rattle.epoch_store.specs.Opens.{IsOpenedIn}
 
 -- Files stand for at most one archive, with whatever caches.
 abbrev pub RecoversOne : Type 0
@@ -20,6 +22,12 @@ RecoversSomeOne = (image : Files) (a b : Option Archive) (c d : List ℕ)
 abbrev pub CachesOne : Type 0
 CachesOne = (image : Files) (a : Archive) (b : Option Archive) (c d : List ℕ)
     → RecoversWith c image a → RecoversSomeWith d image b → c ≡ d
+
+-- Files of which a store is opened stand for an archive that it keeps, with what there is of the cache
+-- that their root names.
+abbrev pub OpenedStands : Type 0
+OpenedStands = (files : Files) (v : StoreState) → IsOpenedIn files v
+    → (a : Archive) × RecoversWith (cache_in v.root files) files a × KeepsArchive v a
 
 -- Files that are exactly those of an archive stand for it.
 abbrev pub ExactRecovers : Type 0

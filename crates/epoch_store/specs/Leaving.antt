@@ -15,7 +15,7 @@ disk_recovers v cache a k image own left = (
   record {
     valid = own.keeps.valid;
     names = own.keeps.names;
-    cache_long = own.cache_long;
+    cache_fits = own.cache_fits;
     stands = on_stands v.root (1 - v.slot) (texts_of v.root (parts_of a cache)) k image own.on left;
   },
 )

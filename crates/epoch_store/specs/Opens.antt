@@ -37,7 +37,7 @@ abbrev pub ReadsWith : List ℕ → Archive → Option Content → Type 0
 ReadsWith cache a None = ⊥
 ReadsWith cache a (Some k) = RecoversWith cache (as_read k) a
 
--- Files stand for one of these archives without a cache, or for none if that is one of these.
+-- Files stand for one of these archives without a byte of a cache, or for none if that is one of these.
 abbrev pub RecoversOf : List (Option Archive) → Files → Type 0
 RecoversOf may image = RecoversOfWith [] may image
 
@@ -45,7 +45,7 @@ RecoversOf may image = RecoversOfWith [] may image
 abbrev pub AllRecoverOf : List (Option Archive) → Option Content → Type 0
 AllRecoverOf may content = AllRecoverWith [] may content
 
--- A disk that tells its content reads as files that stand for an archive without a cache.
+-- A disk that tells its content reads as files that stand for an archive without a byte of a cache.
 abbrev pub ReadsAsArchive : Archive → Option Content → Type 0
 ReadsAsArchive a content = ReadsWith [] a content
 

@@ -11,7 +11,7 @@ use Rattle.root_slots.specs.Each.{IfThere}
 use Rattle.root_slots.specs.Slots.{Current, Ready, Elsewhere, gate, body_offset}
 use Rattle.root_slots.specs.Spelling.{spelling}
 use Rattle.root_change.specs.Names.{names_file, named_end}
-use Rattle.root_change.specs.Texts.{Texts, StandsFor, Measures, as_read}
+use Rattle.root_change.specs.Texts.{Texts, StandsFor, as_read}
 
 -- All that reads give is on the disk, and the current root is this body in this slot.
 pub record IsSettledRoot (slot : ℕ) (body : List ℕ) (k : Content) : Type 0 where
@@ -58,12 +58,10 @@ pub record ReadiesSlot (slot : ℕ) (body : List ℕ) (old new : Content) : Type
   pub slots : SlotsKept slot body old new
   pub elsewhere : (other : FileName) → other ≢ root_name → (new other).seen ≡ (old other).seen
 
--- A disk on which all is synced reads as files that stand for texts by a root in a slot, and the
--- texts are as long as the root says.
+-- A disk on which all is synced reads as files that stand for texts by a root in a slot.
 pub record IsFoundDisk (root : Root) (slot : ℕ) (texts : Texts) (k : Content) : Type 0 where
   pub files_are : IsSettledRoot slot (spelling root) k
   pub stands : StandsFor root texts (as_read k)
-  pub measures : Measures root texts
 
 -- The same for a disk that tells its content.
 abbrev pub FoundOn : Root → ℕ → Texts → Option Content → Type 0

@@ -1,10 +1,11 @@
 //! Laws of files that stand for archives.
 //! Pure.
-ghost use Rattle.epoch_store.specs.Laws.{RecoversOne, RecoversSomeOne, CachesOne, StoreRecovers, ExactRecovers};
+ghost use Rattle.epoch_store.specs.Laws.{RecoversOne, RecoversSomeOne, CachesOne, OpenedStands, StoreRecovers, ExactRecovers};
 
 use epoch_file::law_of_epochs;
 use number_map::law_of_records;
 use root_slots::law_of_spellings;
+use store_finding::law_of_opening;
 
 /// Shows that files stand for at most one archive, and never both for an archive and for none.
 ///
@@ -17,6 +18,15 @@ pub fn law_of_recovery()
     law_of_spellings();
     law_of_records();
     law_of_epochs();
+}
+
+/// Shows that files of which a store is opened stand for an archive that it keeps.
+///
+/// Of a cache that their root names they have the bytes that are there, however few.
+pub fn law_of_opened_files()
+    ensures stands { OpenedStands }
+{
+    law_of_opening();
 }
 
 /// Shows that a store's own disk is exactly that of its archive.

@@ -15,6 +15,6 @@ mod store;
 mod store_opening;
 mod writing;
 
-pub use laws::{law_of_recovery, law_of_stores};
+pub use laws::{law_of_opened_files, law_of_recovery, law_of_stores};
 pub use refusal::InitRefusal;
 pub use store::Store;

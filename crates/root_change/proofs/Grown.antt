@@ -20,6 +20,13 @@ map_isnt_root generation is = let wrong : kind_index (map_name generation).kind 
 pub epoch_isnt_map : (e m n : ℕ) → epoch_name e m ≢ map_name n
 epoch_isnt_map e m n is = let wrong : kind_index (epoch_name e m).kind ≡ kind_index (map_name n).kind = ap (λ (f : FileName). kind_index f.kind) is in absurd (omega (arith, wrong))
 
+-- Neither is a cache's.
+pub epoch_no_cache : (e generation : ℕ) → (epoch_name e generation).kind ≢ kind.Cache
+epoch_no_cache e generation is = let wrong : kind_index (epoch_name e generation).kind ≡ kind_index kind.Cache = ap kind_index is in absurd (omega (arith, wrong))
+
+pub map_no_cache : (generation : ℕ) → (map_name generation).kind ≢ kind.Cache
+map_no_cache generation is = let wrong : kind_index (map_name generation).kind ≡ kind_index kind.Cache = ap kind_index is in absurd (omega (arith, wrong))
+
 -- A root names the file of an epoch that has bytes, and that of its map.
 pub epoch_is_named : (root : Root) (e generation : ℕ) → e < 64 → 0 < (place_of root kind.Epoch e).length → (place_of root kind.Epoch e).generation ≡ generation → names_file root (epoch_name e generation) ≡ true
 epoch_is_named root e generation below some is =

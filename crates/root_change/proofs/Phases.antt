@@ -18,7 +18,7 @@ use Rattle.root_slots.specs.Spelling.{spelling}
 use Rattle.disk_model.specs.Tells.{told_then, told_weaker, told_where}
 use Rattle.disk_model.specs.Beside.{StaysUpTo, AreBeside, Beside, WentBeside, RunsBeside}
 use Rattle.root_change.specs.Names.{names_file, named_end, bounds_of, other_bound, named_none}
-use Rattle.root_change.specs.Texts.{Texts, Fronts, StandsFor, IsOn, OnDisk, Measures, EachFronts, HasLengths, HasSizes, KeepsNamed}
+use Rattle.root_change.specs.Texts.{Texts, counted, StandsFor, IsOn, OnDisk, Measures, EachFronts, HasLengths, HasSizes, KeepsNamed}
 use Rattle.root_change.specs.Leaving.{ready_has}
 use Rattle.root_change.specs.Replacing.{IsToReplace, ToReplace, StandsForEither, IsDropped, drops}
 use Rattle.root_change.proofs.Drops.{true_or_false, alone_from, unnamed_apart}
@@ -28,34 +28,24 @@ pub current_has : (slot : ℕ) (body : List ℕ) (file : File) → IfThere (Curr
 current_has slot body None there = absurd there
 current_has slot body (Some bytes) there = (slot, there)
 
--- A file that has just a text starts with it.
-pub fronts_equal : (text : List ℕ) (file : File) → bytes_of file ≡ text → Fronts text file
-fronts_equal text file is =
-    let size : length (bytes_of file) ≡ length text = ap length is in
-    record { long = omega (arith, size); front = ap (take (length text)) is ∙ take_all (length text) text (omega arith) }
+-- All bytes of a file count that are no more than the root says.
+pub counted_equal : (root : Root) (name : FileName) (text : List ℕ) (file : File) → length text ≤ named_end root name → bytes_of file ≡ text → counted root name file ≡ text
+counted_equal root name text file short is = ap (take (named_end root name)) is ∙ take_all (named_end root name) text short
 
--- Each file starts with an empty text.
-pub fronts_none : (text : List ℕ) (file : File) → length text ≡ 0 → Fronts text file
-fronts_none [] file none = record { long = omega arith; front = refl }
-fronts_none (b ∷ bs) file none = absurd (omega (arith, none))
+-- No byte of a file counts that isn't named.
+pub counted_none : (root : Root) (name : FileName) (file : File) → names_file root name ≡ false → counted root name file ≡ []
+counted_none root name file isnt = ap (λ (n : ℕ). take n (bytes_of file)) (named_none root name isnt)
 
--- A file that stays up to the end of its text starts with it.
-pub front_kept : (text : List ℕ) (end_ : ℕ) (s : Survival) (file : File) → length text ≡ end_ → ((f : File) → MaySurvive s f → Fronts text f) → FrontOrigin end_ s file → Fronts text file
-front_kept text end_ s file size each front =
-    let was = each front.file front.fits in
-    let long = was.long in
-    let there : end_ ≤ length (bytes_of file) = front.long (omega (arith, size, long)) in
-    record {
-      long = omega (arith, size, there);
-      front = ap (λ (n : ℕ). take n (bytes_of file)) size ∙ (front.same ∙ (sym (ap (λ (n : ℕ). take n (bytes_of front.file)) size) ∙ was.front));
-    }
+-- The bytes that count of a file that stays up to their end are as before.
+pub front_kept : (root : Root) (name : FileName) (text : List ℕ) (s : Survival) (file : File) → ((f : File) → MaySurvive s f → counted root name f ≡ text) → FrontOrigin (named_end root name) s file → counted root name file ≡ text
+front_kept root name text s file each front = front.same ∙ each front.file front.fits
 
 -- While files change after the ends of a root's texts, they stand for the texts.
-pub stands_beside : (root : Root) (texts : Texts) (k : Content) (image : Files) → Measures root texts → ((file : File) → MaySurvive (k root_name).sure file → IfThere (HasRoot (spelling root)) file) → EachFronts texts k → AreBeside (bounds_of root) k image → StandsFor root texts image
-stands_beside root texts k image measures roots fronts crash_beside = record {
+pub stands_beside : (root : Root) (texts : Texts) (k : Content) (image : Files) → ((file : File) → MaySurvive (k root_name).sure file → IfThere (HasRoot (spelling root)) file) → EachFronts root texts k → AreBeside (bounds_of root) k image → StandsFor root texts image
+stands_beside root texts k image roots fronts crash_beside = record {
   current = roots (image root_name) (crash_beside.each root_name);
   fronts = λ name apart.
-      front_kept (texts name) (named_end root name) (k name).sure (image name) (measures name apart) (fronts name apart)
+      front_kept root name (texts name) (k name).sure (image name) (fronts name apart)
       (subst (λ (b : Option ℕ). StaysUpTo b (k name).sure (image name)) (other_bound root name apart) (crash_beside.each name));
 }
 
@@ -104,11 +94,18 @@ dropped_root P old new (Some k) None fit dropped roots = absurd dropped
 dropped_root P old new (Some k) (Some m) fit dropped roots = λ file fits. subst (λ (f : File). IfThere P f) (sym (settled_file m root_name file dropped.settled fits ∙ dropped.dropped.kept root_name refl)) (roots (k root_name).seen (fit k refl root_name))
 
 module _ (free : ℕ) (old : Root) (texts : Texts) (new : Root) (next : Texts) where
+  -- A file that the new root doesn't name has no next text.
+  no_next : Measures new next → (name : FileName) → name ≢ root_name → names_file new name ≡ false → next name ≡ []
+  no_next measures name apart isnt =
+      let short = measures name apart in
+      let none = named_none new name isnt in
+      nil_from_length (next name) (omega (arith, short, none))
+
   -- The next text of each file, as reads give it.
-  next_fronts : (k : Content) → IsToReplace free old texts new next k → (name : FileName) → name ≢ root_name → Fronts (next name) (k name).seen
+  next_fronts : (k : Content) → IsToReplace free old texts new next k → (name : FileName) → name ≢ root_name → counted new name (k name).seen ≡ next name
   next_fronts k todo name apart = elim (true_or_false (names_file new name)) [
-    | inl is ↦ fronts_equal (next name) (k name).seen (todo.reads name apart is)
-    | inr isnt ↦ fronts_none (next name) (k name).seen (todo.measures name apart ∙ named_none new name isnt)
+    | inl is ↦ counted_equal new name (next name) (k name).seen (todo.measures name apart) (todo.reads name apart is)
+    | inr isnt ↦ counted_none new name (k name).seen isnt ∙ sym (no_next todo.measures name apart isnt)
   ]
 
   -- Before the commit.
@@ -121,8 +118,8 @@ module _ (free : ℕ) (old : Root) (texts : Texts) (new : Root) (next : Texts) w
   -- During the commit.
   committing : (k m : Content) (image : Files) → ReadsFit (Some k) → IsToReplace free old texts new next k → Synced k m → OldOrNew (spelling old) (spelling new) m image → StandsForEither old texts new next image
   committing k m image fit todo synced crash_between = elim crash_between.root [
-    | inl was ↦ inl (record { current = was; fronts = λ name apart. subst (Fronts (texts name)) (sym (as_before name apart)) (todo.fronts name apart (k name).seen (fit k refl name)) })
-    | inr will ↦ inr (record { current = will; fronts = λ name apart. subst (Fronts (next name)) (sym (as_before name apart)) (next_fronts k todo name apart) })
+    | inl was ↦ inl (record { current = was; fronts = λ name apart. ap (counted old name) (as_before name apart) ∙ (todo.fronts name apart (k name).seen (fit k refl name)) })
+    | inr will ↦ inr (record { current = will; fronts = λ name apart. ap (counted new name) (as_before name apart) ∙ (next_fronts k todo name apart) })
   ] where
     as_before : (name : FileName) → name ≢ root_name → image name ≡ (k name).seen
     as_before name apart = synced_file k m name (image name) synced (crash_between.elsewhere name apart)
@@ -130,11 +127,11 @@ module _ (free : ℕ) (old : Root) (texts : Texts) (new : Root) (next : Texts) w
   -- While files are dropped.
   dropping : (k m n : Content) (image : Files) → IsToReplace free old texts new next k → Synced k m → IsCommitted m n → EachRoot (Current free (spelling new)) (Some n) → AreBeside (bounds_of new) n image → StandsFor new next image
   dropping k m n image todo synced committed roots crash_beside =
-      stands_beside new next n image todo.measures (λ file fits. current_has free (spelling new) file (roots file fits)) fronts crash_beside where
-        fronts : EachFronts next n
+      stands_beside new next n image (λ file fits. current_has free (spelling new) file (roots file fits)) fronts crash_beside where
+        fronts : EachFronts new next n
         fronts name apart file fits =
             let is : file ≡ (k name).seen = settled_file n name file committed.settled fits ∙ (committed.elsewhere name apart ∙ synced.seen name) in
-            subst (Fronts (next name)) (sym is) (next_fronts k todo name apart)
+            ap (counted new name) is ∙ next_fronts k todo name apart
 
   module _ (k p : Content) (todo : IsToReplace free old texts new next k) (was : Replaced free (spelling new) old new k p) where
     -- In the end no file is there that the new root doesn't name.
@@ -148,13 +145,13 @@ module _ (free : ℕ) (old : Root) (texts : Texts) (new : Root) (next : Texts) w
     seen_next : (name : FileName) → name ≢ root_name → bytes_of (p name).seen ≡ next name
     seen_next name apart = elim (true_or_false (names_file new name)) [
       | inl is ↦ ap bytes_of (was.kept name apart is) ∙ todo.reads name apart is
-      | inr isnt ↦ ap bytes_of (gone name isnt) ∙ sym (nil_from_length (next name) (todo.measures name apart ∙ named_none new name isnt))
+      | inr isnt ↦ ap bytes_of (gone name isnt) ∙ sym (no_next todo.measures name apart isnt)
     ]
 
     done : ReadsFit (Some p) → EachRoot (Ready (1 - free) (spelling new)) (Some p) → IsOn new (1 - free) next p
     done fit ready = record {
       roots = ready;
-      fronts = λ name apart file fits. fronts_equal (next name) file (ap bytes_of (settled_file p name file was.settled fits) ∙ seen_next name apart);
+      fronts = λ name apart file fits. counted_equal new name (next name) file (todo.measures name apart) (ap bytes_of (settled_file p name file was.settled fits) ∙ seen_next name apart);
       exact = record { current = ready_has (1 - free) (spelling new) (p root_name).seen (ready (p root_name).seen (fit p refl root_name)); ends = seen_next; no_other = gone };
     }
 

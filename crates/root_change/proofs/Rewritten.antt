@@ -23,7 +23,7 @@ use Rattle.root_change.specs.Parts.{Parts, texts_of, PartsFit}
 use Rattle.root_change.specs.Rewriting.{Plan, IsPartToPlan, IsRootAfter, MayCarryAll, bytes_by, file_by, map_by, map_planned, place_anew, place_by, place_planned, plan_count, plan_of, planned, rewritten, written_by}
 use Rattle.root_change.specs.Texts.{Texts, IsOn, OnDisk, HasLengths, HasPartSizes}
 use Rattle.root_change.specs.Writing.{MayWrite, MayWriteAll, WritesPlans}
-use Rattle.root_change.proofs.Changes.{text_named, text_unnamed, parts_measure}
+use Rattle.root_change.proofs.Changes.{text_named, text_unnamed, part_full, part_measure, parts_measure}
 use Rattle.root_change.proofs.Drops.{both, is_same, not_both, true_or_false, named, named_root, named_map, named_number, named_epoch, named_bytes}
 use Rattle.root_change.proofs.Grown.{epoch_is_named, map_is_named}
 use Rattle.root_change.proofs.PlanParts.{IsFound, found, is_of, is_of_own, none_found, plan_of_each}
@@ -322,6 +322,10 @@ module _ (old new : Root) (plans : List Plan) (number : ℕ) (valid : IsRoot old
     abbrev next : Parts
     next = rewritten old plans parts
 
+    -- A part that may be planned is as long as the old root says.
+    full_part : (k : FileKind) (n : ℕ) → IsPartToPlan k n → length (parts k n) ≡ (place_of old k n).length
+    full_part k n part = part_full k (place_of old k n).length (length (parts k n)) (part_no_cache k n part) (long k n)
+
     next_is : (k : FileKind) (n : ℕ) → IsPartToPlan k n → next k n ≡ planned texts (plan_of plans k n) (parts k n)
     next_is kind.Root n part = absurd part
     next_is kind.Map n part = refl
@@ -351,15 +355,15 @@ module _ (old new : Root) (plans : List Plan) (number : ℕ) (valid : IsRoot old
           let file = file_by new plan.kind plan.number in
           let other = part_isnt_root new plan.kind plan.number (may.each i plan here).part in
           let reads = on.exact.ends file other in
-          (wrote.each i plan here).there (ap length reads ∙ parts_measure old parts long file other)
+          (wrote.each i plan here).there (ap length reads ∙ part_measure old parts long file (part_no_cache plan.kind plan.number (may.each i plan here).part))
           ∙ (ap (λ (l : List ℕ). l ++ gathered plan.bytes k plan.sources) reads ∙ ap (λ (l : List ℕ). texts file ++ l) (written_is i plan here))
 
       -- The length of a part after its plan.
       part_long : (i : ℕ) (plan : Plan) (here : slice_get plans i ≡ Some plan) → length (next plan.kind plan.number) ≡ (place_of new plan.kind plan.number).length
       part_long i plan here =
           let before = parts plan.kind plan.number in
-          let was = long plan.kind plan.number in
           let part = (may.each i plan here).part in
+          let was = full_part plan.kind plan.number part in
           let is = next_planned plan.kind plan.number plan part (plan_of_each plans i plan may.apart here) in
           let full = written_full i plan here in
           ap length is ∙ elim (goes i plan here) [
@@ -378,7 +382,7 @@ module _ (old new : Root) (plans : List Plan) (number : ℕ) (valid : IsRoot old
             let one = found plans j n some.0 some.1 in
             subst (λ (l : FileKind). length (next l n) ≡ (place_of new l n).length) one.kind_is
             (subst (λ (l : ℕ). length (next some.0.kind l) ≡ (place_of new some.0.kind l).length) one.number_is (part_long one.index some.0 one.here))
-        | inr none ↦ ap length (next_kept j n part none) ∙ (long j n ∙ sym (ap (λ (p : Place). p.length) (place_kept j n part none)))
+        | inr none ↦ ap length (next_kept j n part none) ∙ (full_part j n part ∙ sym (ap (λ (p : Place). p.length) (place_kept j n part none)))
       ]
 
       -- There is no plan of other parts.
@@ -410,9 +414,9 @@ module _ (old new : Root) (plans : List Plan) (number : ℕ) (valid : IsRoot old
             ∙ (ap (λ (p : Place). p.length) (get_or_past old.epochs n no_place (omega (arith, old_size, past))) ∙ sym (ap (λ (p : Place). p.length) (get_or_past new.epochs n no_place (omega (arith, new_size, past))))))
       ]
       next_fit kind.Cache n = by (n == 0) where
-        by : (b : Bool) → 0 ≡ (if b then new.cache else no_place).length
-        by true = sym (ap (λ (p : Place). p.length) after.cache)
-        by false = refl
+        by : (b : Bool) → 0 ≤ (if b then new.cache else no_place).length
+        by true = omega arith
+        by false = omega arith
 
       -- A file that both roots don't name has no bytes.
       nothing_written : (i : ℕ) (plan : Plan) (here : slice_get plans i ≡ Some plan) → names_file new (file_by new plan.kind plan.number) ≡ false → names_file old (file_by new plan.kind plan.number) ≡ false → plan_count plan ≡ 0
@@ -430,7 +434,7 @@ module _ (old new : Root) (plans : List Plan) (number : ℕ) (valid : IsRoot old
           let before = parts plan.kind plan.number in
           let written = written_by texts plan in
           let part = (may.each i plan here).part in
-          let was = long plan.kind plan.number in
+          let was = full_part plan.kind plan.number part in
           file_reads i plan here ∙ (elim (goes i plan here) [
             | inl fresh ↦
                 ap (λ (l : List ℕ). l ++ written) (text_unnamed old parts file (fresh_unnamed plan.kind plan.number file.generation part fresh.gen_is))

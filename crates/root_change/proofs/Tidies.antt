@@ -19,11 +19,11 @@ use Rattle.root_slots.specs.Slots.{Ready}
 use Rattle.root_slots.specs.Spelling.{spelling}
 use Rattle.root_change.specs.Names.{names_file, is_root_name, root_by, named_end, bounds_of, named_none}
 use Rattle.root_change.specs.Leaving.{ready_has}
-use Rattle.root_change.specs.Texts.{Texts, StandsFor, IsOn, OnDisk}
+use Rattle.root_change.specs.Texts.{Texts, counted, StandsFor, IsOn, OnDisk}
 use Rattle.root_change.specs.Replacing.{IsOne}
 use Rattle.root_change.specs.Tidying.{Trimmed, Tidied, IsToTidy, ToTidy}
 use Rattle.root_change.proofs.Drops.{not_both, named, named_root, unnamed_apart}
-use Rattle.root_change.proofs.Phases.{fronts_equal, stands_beside, synced_file}
+use Rattle.root_change.proofs.Phases.{stands_beside, synced_file}
 use Rattle.root_change.proofs.Roots.{none_at_most, same_at_most, at_most_then}
 
 -- The name of the root file, and any other one.
@@ -211,7 +211,7 @@ module _ (root : Root) where
   -- While files are tidied, they stand for the texts.
   pub tidying_stands : (free : ℕ) (texts : Texts) (names : List FileName) (k : Option Content) (image : Files) → ToTidy root free texts names k → Beside (bounds_of root) k image → StandsFor root texts image
   tidying_stands free texts names None image todo crash_beside = absurd todo
-  tidying_stands free texts names (Some k) image todo crash_beside = stands_beside root texts k image todo.measures (λ file fits. ready_has free (spelling root) file (todo.roots file fits)) todo.fronts crash_beside
+  tidying_stands free texts names (Some k) image todo crash_beside = stands_beside root texts k image (λ file fits. ready_has free (spelling root) file (todo.roots file fits)) todo.fronts crash_beside
 
   -- A file is there or missing.
   there_or_not : (file : File) → IsSome file ⊎ (file ≡ None)
@@ -229,10 +229,8 @@ module _ (root : Root) where
     -- Each has just its text.
     ends : (name : FileName) → name ≢ root_name → bytes_of (m name).seen ≡ texts name
     ends name apart =
-        let front = todo.fronts name apart (k name).seen (fit k refl name) in
-        let size : length (texts name) ≡ named_end root name = todo.measures name apart in
         sym (take_all (named_end root name) (bytes_of (m name).seen) (all_short name apart))
-        ∙ (tidied.fronts name ∙ (ap (λ (n : ℕ). take n (bytes_of (k name).seen)) (sym size) ∙ front.front))
+        ∙ (tidied.fronts name ∙ todo.fronts name apart (k name).seen (fit k refl name))
 
     -- There is no other one.
     gone : (name : FileName) → names_file root name ≡ false → (m name).seen ≡ None
@@ -248,7 +246,7 @@ module _ (root : Root) where
     tidy_now : IsOn root free texts o
     tidy_now = record {
       roots = λ file fits. root_left file (synced_file m o root_name file synced fits);
-      fronts = λ name apart file fits. fronts_equal (texts name) file (ap bytes_of (synced_file m o name file synced fits) ∙ ends name apart);
+      fronts = λ name apart file fits. ap (counted root name) (synced_file m o name file synced fits) ∙ (tidied.fronts name ∙ todo.fronts name apart (k name).seen (fit k refl name));
       exact = record {
         current = ready_has free (spelling root) (o root_name).seen (root_left (o root_name).seen (synced.seen root_name));
         ends = λ name apart. ap bytes_of (synced.seen name) ∙ ends name apart;

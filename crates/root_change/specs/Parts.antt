@@ -1,6 +1,7 @@
 -- The parts of an archive, and the files that hold them by a root.
-use Rattle.std.specs.Prelude.{◌≡◌, ℕ, if◌then◌else◌, List, [], length, Option}
+use Rattle.std.specs.Prelude.{◌≡◌, ◌≤◌, ℕ, if◌then◌else◌, List, [], length, Option}
 use Rattle.disk_model.specs.declared.name.FileKind.{FileKind}
+use Rattle.disk_model.specs.declared.name.FileKind.TheVariants as kind
 use Rattle.disk_model.specs.Disk.{Files, Content}
 use Rattle.root_slots.specs.declared.root.Root.{Root}
 use Rattle.root_slots.specs.Valid.{RootFits, IsRoot}
@@ -16,10 +17,16 @@ Parts = FileKind → ℕ → List ℕ
 abbrev pub texts_of : Root → Parts → Texts
 texts_of root parts name = if names_file root name then parts name.kind name.number else []
 
--- Each part is as long as the root says.
+-- A part of a kind may have so many bytes where a root says how many count: just as many. Of a cache
+-- as many count as there are, up to that.
+abbrev pub MayHave : FileKind → ℕ → ℕ → Type 0
+MayHave kind.Cache named count = count ≤ named
+MayHave _ named count = count ≡ named
+
+-- Each part is as long as the root says, a cache at most so long.
 abbrev pub PartsFit : Root → Parts → Type 0
-PartsFit root parts = (kind : FileKind) (number : ℕ)
-    → length (parts kind number) ≡ (place_of root kind number).length
+PartsFit root parts = (kind_ : FileKind) (number : ℕ)
+    → MayHave kind_ (place_of root kind_ number).length (length (parts kind_ number))
 
 -- Files stand for parts by a root that names them.
 pub record RecoversPartsBy (root : Root) (parts : Parts) (image : Files) : Type 0 where

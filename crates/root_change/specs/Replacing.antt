@@ -18,7 +18,7 @@ pub record IsToReplace (free : ℕ) (old : Root) (texts : Texts) (new : Root) (n
     (k : Content) : Type 0 where
   pub roots : EachRoot (Ready free (spelling old)) (Some k)
   pub later : sequence_of (spelling old) < new.sequence
-  pub fronts : EachFronts texts k
+  pub fronts : EachFronts old texts k
   pub measures : Measures new next
   pub reads : (name : FileName) → name ≢ root_name → names_file new name ≡ true
       → bytes_of (k name).seen ≡ next name

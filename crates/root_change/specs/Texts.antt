@@ -20,11 +20,16 @@ pub record Fronts (bytes : List ℕ) (file : File) : Type 0 where
   pub long : length bytes ≤ length (bytes_of file)
   pub front : take (length bytes) (bytes_of file) ≡ bytes
 
--- Files stand for texts by a root: it is their current root, and each other file starts with its
--- text. What follows a text, and files without one, may be anything.
+-- The bytes of a file that count by a root: those up to the end that it names, or as many of them as
+-- there are.
+abbrev pub counted : Root → FileName → File → List ℕ
+counted root name file = take (named_end root name) (bytes_of file)
+
+-- Files stand for texts by a root: it is their current root, and the bytes that count of each other
+-- file are its text. What follows them, and files that aren't named, may be anything.
 pub record StandsFor (root : Root) (texts : Texts) (image : Files) : Type 0 where
   pub current : IfThere (HasRoot (spelling root)) (image root_name)
-  pub fronts : (name : FileName) → name ≢ root_name → Fronts (texts name) (image name)
+  pub fronts : (name : FileName) → name ≢ root_name → counted root name (image name) ≡ texts name
 
 -- Files are exactly those of texts by a root: each has just its text, and there is none that the
 -- root doesn't name.
@@ -37,21 +42,21 @@ pub record IsExact (root : Root) (texts : Texts) (files : Files) : Type 0 where
 abbrev pub as_read : Content → Files
 as_read k name = (k name).seen
 
--- Each text is as long as the root says.
+-- No text is longer than the root says.
 abbrev pub Measures : Root → Texts → Type 0
 Measures root texts = (name : FileName) → name ≢ root_name
-    → length (texts name) ≡ named_end root name
+    → length (texts name) ≤ named_end root name
 
--- Each file that a crash may leave starts with its text.
-abbrev pub EachFronts : Texts → Content → Type 0
-EachFronts texts k = (name : FileName) → name ≢ root_name → (file : File) → MaySurvive (k name).sure file
-    → Fronts (texts name) file
+-- The bytes that count of each file that a crash may leave are its text.
+abbrev pub EachFronts : Root → Texts → Content → Type 0
+EachFronts root texts k = (name : FileName) → name ≢ root_name → (file : File)
+    → MaySurvive (k name).sure file → counted root name file ≡ texts name
 
 -- A disk is exactly that of texts by a root, and this slot is ready for the next root: a crash
 -- leaves files that stand for the texts, and the files as reads give them are exactly theirs.
 pub record IsOn (root : Root) (free : ℕ) (texts : Texts) (k : Content) : Type 0 where
   pub roots : EachRoot (Ready free (spelling root)) (Some k)
-  pub fronts : EachFronts texts k
+  pub fronts : EachFronts root texts k
   pub exact : IsExact root texts (as_read k)
 
 -- The same for a disk that tells its content.

@@ -9,7 +9,7 @@ use Rattle.root_slots.specs.Each.{EachRoot}
 use Rattle.root_slots.specs.Slots.{Ready}
 use Rattle.root_slots.specs.Spelling.{spelling}
 use Rattle.root_change.specs.Names.{names_file, named_end}
-use Rattle.root_change.specs.Texts.{Texts, Measures, EachFronts}
+use Rattle.root_change.specs.Texts.{Texts, EachFronts}
 
 -- A file of at most n bytes with the same first n bytes as before. A missing file stays missing.
 pub record Trimmed (n : ℕ) (old new : Kept) : Type 0 where
@@ -38,8 +38,7 @@ pub record Tidied (which : FileName → Type 0) (root : Root) (old new : Content
 pub record IsToTidy (root : Root) (free : ℕ) (texts : Texts) (names : List FileName) (k : Content)
     : Type 0 where
   pub roots : EachRoot (Ready free (spelling root)) (Some k)
-  pub fronts : EachFronts texts k
-  pub measures : Measures root texts
+  pub fronts : EachFronts root texts k
   pub all : (name : FileName) → IsSome (k name).seen → Contains names name
 
 -- The same for a disk that tells its content.

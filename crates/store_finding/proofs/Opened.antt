@@ -1,7 +1,7 @@
 -- Files are opened as what they stand for, and stand for what they are opened as.
 use Rattle.std.specs.Prelude.{◌≡◌, ◌≢◌, ◌+◌, ◌-◌, ◌*◌, ◌<◌, ◌≤◌, ℕ, zero, suc, Bool, true, false, cond, List, [], ◌∷◌, length, take, map, Option, Some, None, refl}
 use Rattle.std.specs.List.{AllByRecursion, flat_map}
-use Rattle.std.proofs.Common.{◌∙◌, sym, ap, subst, inl, inr, arith}
+use Rattle.std.proofs.Common.{◌∙◌, sym, ap, subst, inl, inr, arith, length-take}
 use Rattle.std.proofs.lemmas.List.{append-nil}
 use Rattle.std.proofs.lemmas.Bool.{cases_lt}
 use Rattle.git_objects.specs.Objects.{blob_id_of}
@@ -11,14 +11,14 @@ use Rattle.number_map.specs.declared.line.Record.{Record}
 use Rattle.number_map.specs.Laws.{RecordsDiffer}
 use Rattle.number_map.specs.Records.{record_bytes, IsRecord, AreRecordsFrom}
 use Rattle.number_map.specs.Sizes.{records_length}
-use Rattle.store_finding.specs.Files.{map_file_of}
+use Rattle.store_finding.specs.Files.{map_file_of, cache_file_of}
 use Rattle.arch_model.specs.Validity.{IsEntry, IsArchive}
 use Rattle.arch_model.proofs.LiveEntries.{messages-all}
 use Rattle.store_finding.proofs.Live.{Ascends, messages_ascend, numbers_all}
 use Rattle.store_finding.specs.Recovery.{entry_of, record_for, records_from, records_of, map_bytes, NamesArchive}
 use Rattle.store_finding.proofs.FrontParts.{from_parts, parts_front}
 use Rattle.store_finding.specs.Damage.{has_message, messages, record_of}
-use Rattle.store_finding.specs.Openings.{archive_of, OpenedRecovers, RecoversMap, RecoversOpened}
+use Rattle.store_finding.specs.Openings.{archive_of, cache_in, OpenedRecovers, RecoversMap, RecoversOpened}
 use Rattle.arch_model.proofs.ValidArchives.{all_weaker}
 use Rattle.root_change.proofs.Roots.{same_test, other_test, less_test}
 use Rattle.store_finding.proofs.Mapped.{records_valid, records_few, map_length}
@@ -135,7 +135,7 @@ numbers_most n (line ∷ lines) es valid is = by (λ fs. numbers_most (n + 1) li
 
 -- Files that are opened stand for the archive of what was found.
 pub opened_recovers : OpenedRecovers
-opened_recovers root files rs entries cache has has_cache opened =
+opened_recovers root files rs entries has opened =
     let a = archive_of root entries in
     let least = has.is_root.next_least in
     let count = has.count in
@@ -143,27 +143,29 @@ opened_recovers root files rs entries cache has has_cache opened =
     let back : rs ≡ records_of a = records_back 1 rs (delivered entries) has.begins.valid (messages_ascend 1 0 entries opened.first.order) all ∙ ap (records_from (delivered entries) 1) count in
     let size : 28 * length rs ≡ length (map_bytes a) = sym (records_length 1 rs has.begins.valid) ∙ ap (λ (l : List Record). length (flat_map record_bytes l)) back in
     let names : NamesArchive root a = record { is_root = has.is_root; fits = has.fits; config = refl; next = refl; epochs = opened.whole.lengths } in
+    let cache_fits : length (cache_in root files) ≤ root.cache.length = (let size = length-take {A = ℕ} root.cache.length (bytes_of (files (cache_file_of root))) in omega (arith, size)) in
+    let valid : IsArchive a = record {
+      name = has.fits.name;
+      config = has.is_root.config;
+      next_least = least;
+      next_most = has.is_root.next_most;
+      entries = opened.first.valid;
+      below = all_weaker (λ (e : Entry). e.number < 1 + length rs) (λ (e : Entry). e.number < root.next) entries (λ e less. omega (arith, less, count, least))
+          (numbers_all (λ (n : ℕ). n < 1 + length rs) [] entries tt opened.first.ends (numbers_most 1 rs (delivered entries) has.begins.valid all));
+      order = opened.first.order;
+      ends = opened.first.ends;
+      ids = opened.first.ids;
+      blobs = opened.first.blobs;
+    } in
     record {
-      valid = record {
-        name = has.fits.name;
-        config = has.is_root.config;
-        next_least = least;
-        next_most = has.is_root.next_most;
-        entries = opened.first.valid;
-        below = all_weaker (λ (e : Entry). e.number < 1 + length rs) (λ (e : Entry). e.number < root.next) entries (λ e less. omega (arith, less, count, least))
-            (numbers_all (λ (n : ℕ). n < 1 + length rs) [] entries tt opened.first.ends (numbers_most 1 rs (delivered entries) has.begins.valid all));
-        order = opened.first.order;
-        ends = opened.first.ends;
-        ids = opened.first.ids;
-        blobs = opened.first.blobs;
-      };
+      valid = valid;
       names = names;
-      cache_long = has_cache.long;
-      stands = from_parts root a cache names has_cache.long files (record {
+      cache_fits = cache_fits;
+      stands = from_parts root a (cache_in root files) valid names cache_fits files (record {
         current = has.current;
         map_front = fronts_by (28 * length rs) (map_bytes a) (files (map_file_of root)) (has.begins.spelled ∙ ap (flat_map record_bytes) back) size;
         epochs_front = opened.whole.fronts;
-        cache_front = has_cache.front;
+        cache_is = refl;
       });
     }
 

@@ -48,7 +48,7 @@ pub record KeepsArchive (v : StoreState) (a : Archive) : Type 0 where
 -- and the disk is exactly the archive's by the store's root.
 pub record IsDiskWith (v : StoreState) (cache : List ℕ) (a : Archive) (k : Content) : Type 0 where
   pub keeps : KeepsArchive v a
-  pub cache_long : v.root.cache.length ≡ length cache
+  pub cache_fits : length cache ≤ v.root.cache.length
   pub on : IsOn v.root (1 - v.slot) (texts_of v.root (parts_of a cache)) k
 
 -- The same for a disk that tells its content.
@@ -56,7 +56,7 @@ abbrev pub IsStoreWith : StoreState → List ℕ → Archive → Option Content 
 IsStoreWith v cache a None = ⊥
 IsStoreWith v cache a (Some k) = IsDiskWith v cache a k
 
--- A disk is a store's own, and holds this archive without a cache.
+-- A disk is a store's own, and holds this archive without a byte of a cache.
 abbrev pub IsDiskOf : StoreState → Archive → Content → Type 0
 IsDiskOf v a k = IsDiskWith v [] a k
 

@@ -1,5 +1,5 @@
 -- What is found when an archive is opened is what its files stand for.
-use Rattle.std.specs.Prelude.{◌≡◌, ◌-◌, ℕ, List, [], length}
+use Rattle.std.specs.Prelude.{◌≡◌, ◌-◌, ℕ, List, [], length, take}
 use Rattle.disk_model.specs.Disk.{Files, bytes_of}
 use Rattle.arch_model.specs.Archives.{Entry, Archive}
 use Rattle.number_map.specs.declared.line.Record.{Record}
@@ -10,7 +10,6 @@ use Rattle.root_slots.specs.Slots.{HasRoot}
 use Rattle.root_slots.specs.Each.{IfThere}
 use Rattle.root_slots.specs.Spelling.{spelling}
 use Rattle.root_slots.specs.Valid.{IsRoot, RootFits}
-use Rattle.root_change.specs.Texts.{Fronts}
 use Rattle.store_finding.specs.Files.{map_file_of, cache_file_of}
 use Rattle.store_finding.specs.Recovery.{records_of, RecoversArchiveBy}
 use Rattle.store_finding.specs.declared.entries.StoredEntry.{StoredEntry}
@@ -46,16 +45,15 @@ pub record AreRead (root : Root) (files : Files) (rs : List Record) (kept : List
   pub opened : AreOpened root files rs entries
   pub kept_are : kept ≡ stored_after [] entries
 
--- The cache that a root names starts with these bytes.
-pub record HasCache (root : Root) (files : Files) (cache : List ℕ) : Type 0 where
-  pub long : root.cache.length ≡ length cache
-  pub front : Fronts cache (files (cache_file_of root))
+-- The bytes of the cache that a root names: those that are there, up to as many as it says.
+abbrev pub cache_in : Root → Files → List ℕ
+cache_in root files = take root.cache.length (bytes_of (files (cache_file_of root)))
 
--- Files that are opened stand for the archive of what was found.
+-- Files that are opened stand for the archive of what was found, with what there is of the cache.
 abbrev pub OpenedRecovers : Type 0
 OpenedRecovers = (root : Root) (files : Files) (rs : List Record) (entries : List Entry)
-    (cache : List ℕ) → HasMap root files rs → HasCache root files cache
-    → AreOpened root files rs entries → RecoversArchiveBy root cache files (archive_of root entries)
+    → HasMap root files rs → AreOpened root files rs entries
+    → RecoversArchiveBy root (cache_in root files) files (archive_of root entries)
 
 -- Files that stand for an archive are opened with its entries.
 abbrev pub RecoversOpened : Type 0

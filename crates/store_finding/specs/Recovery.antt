@@ -1,5 +1,5 @@
 -- Which files stand for an archive.
-use Rattle.std.specs.Prelude.{◌≡◌, ◌+◌, ◌-◌, ◌<◌, ◌==◌, ℕ, zero, suc, List, [], ◌∷◌, length, get_or, replicate, Option, Some, None, if◌then◌else◌}
+use Rattle.std.specs.Prelude.{◌≡◌, ◌+◌, ◌-◌, ◌<◌, ◌≤◌, ◌==◌, ℕ, zero, suc, List, [], ◌∷◌, length, get_or, replicate, Option, Some, None, if◌then◌else◌}
 use Rattle.std.specs.List.{flat_map}
 use Rattle.disk_model.specs.declared.name.FileKind.TheVariants as kind
 use Rattle.disk_model.specs.Disk.{Files}
@@ -62,18 +62,19 @@ pub record NamesArchive (root : Root) (a : Archive) : Type 0 where
   pub epochs : (e : ℕ) → e < epoch_count
       → (get_or root.epochs e no_place).length ≡ length (bytes_in a e)
 
--- Files stand for an archive, with a cache of these bytes, by a root that names them.
+-- Files stand for an archive, with a cache of these bytes, by a root that names them. The bytes of a
+-- cache are those that are there, up to as many as the root says.
 pub record RecoversArchiveBy (root : Root) (cache : List ℕ) (image : Files) (a : Archive) : Type 0 where
   pub valid : IsArchive a
   pub names : NamesArchive root a
-  pub cache_long : root.cache.length ≡ length cache
+  pub cache_fits : length cache ≤ root.cache.length
   pub stands : StandsFor root (texts_of root (parts_of a cache)) image
 
 -- Files stand for an archive, with a cache of these bytes.
 abbrev pub RecoversWith : List ℕ → Files → Archive → Type 0
 RecoversWith cache image a = (root : Root) × RecoversArchiveBy root cache image a
 
--- Files stand for an archive, without a cache.
+-- Files stand for an archive, without a byte of a cache.
 abbrev pub Recovers : Files → Archive → Type 0
 Recovers image a = RecoversWith [] image a
 
@@ -82,7 +83,7 @@ abbrev pub RecoversSomeWith : List ℕ → Files → Option Archive → Type 0
 RecoversSomeWith cache image None = IsShutFile (image root_name)
 RecoversSomeWith cache image (Some a) = RecoversWith cache image a
 
--- The same without a cache.
+-- The same without a byte of a cache.
 abbrev pub RecoversSome : Files → Option Archive → Type 0
 RecoversSome image a = RecoversSomeWith [] image a
 
@@ -90,13 +91,13 @@ RecoversSome image a = RecoversSomeWith [] image a
 pub record ExactBy (root : Root) (cache : List ℕ) (files : Files) (a : Archive) : Type 0 where
   pub valid : IsArchive a
   pub names : NamesArchive root a
-  pub cache_long : root.cache.length ≡ length cache
+  pub cache_fits : length cache ≤ root.cache.length
   pub exact : IsExact root (texts_of root (parts_of a cache)) files
 
 -- Files are exactly those of an archive, with a cache of these bytes.
 abbrev pub ExactWith : List ℕ → Files → Archive → Type 0
 ExactWith cache files a = (root : Root) × ExactBy root cache files a
 
--- Files are exactly those of an archive, without a cache.
+-- Files are exactly those of an archive, without a byte of a cache.
 abbrev pub Exact : Files → Archive → Type 0
 Exact files a = ExactWith [] files a

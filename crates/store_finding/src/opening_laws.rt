@@ -8,7 +8,6 @@ use number_map::law_of_records;
 /// Shows that files are opened with entries exactly if they stand for the archive with these.
 ///
 /// Such files have no damage.
-#[tactic(auto, using(crate::proofs::Opened::opened_recovers))]
 pub fn law_of_opening()
     ensures recovers { OpenedRecovers }
     ensures opened { RecoversOpened }
