@@ -1,8 +1,12 @@
 -- The words of an index, each at its number.
-use Rattle.std.specs.Prelude.{◌≡◌, ◌<◌, ◌≤◌, ℕ, List, [], map, length, slice_index_or, Option, Some, None, MatchOption}
+use Rattle.std.specs.Prelude.{◌≡◌, ◌<◌, ◌≤◌, ℕ, List, [], map, length, slice_index_or, Option, Some, None, if◌then◌else◌}
 use Rattle.std.specs.List.{AllByRecursion}
+use Rattle.std.specs.Str.{bytes_eq}
+use Rattle.std.specs.Cmp.Lexicographic.{slice_cmp}
 use Rattle.std.specs.BTreeMap.{BTreeMap, get_by}
+use Rattle.std.specs.Global.{Vec}
 use Rattle.std.specs.Ordering.{nat_cmp}
+use Rattle.std.specs.declared.cmp.Ordering.{Ordering}
 use Rattle.word_index.specs.Marks.{mark_of}
 
 -- The word with a number.
@@ -18,34 +22,38 @@ pub record IsNumberOf (words : List (List ℕ)) (word : List ℕ) (number : Opti
   pub found : (i : ℕ) → i < length words → word_at words i ≡ word → number ≡ Some i
   pub held : (i : ℕ) → number ≡ Some i → (i < length words) × (word_at words i ≡ word)
 
--- What a mark has, which need not be in the table.
+-- What a key has, which need not be in its table.
 abbrev pub given : Option (Option ℕ) → Option ℕ
 given None = None
 given (Some number) = number
 
--- The number of the last word with a mark, by a table.
-abbrev pub last_with : BTreeMap ℕ (Option ℕ) → ℕ → Option ℕ
-last_with last mark = given (get_by (nat_cmp mark) last)
+-- The number of the first word with a mark, by a table.
+abbrev pub first_with : BTreeMap ℕ (Option ℕ) → ℕ → Option ℕ
+first_with first mark = given (get_by (nat_cmp mark) first)
 
--- The last word with a mark among so many first ones, if there is one.
-pub record IsLastOf (words : List (List ℕ)) (mark bound : ℕ) (number : Option ℕ) : Type 0 where
-  pub held : (i : ℕ) → number ≡ Some i → (i < bound) × (mark_of (word_at words i) ≡ mark)
-  pub last : (i : ℕ) → i < bound → mark_of (word_at words i) ≡ mark → MatchOption number ⊥ (λ (j : ℕ). i ≤ j)
+-- How bytes compare with a key of a table.
+abbrev pub looks : List ℕ → Vec ℕ → Ordering
+looks word key = slice_cmp nat_cmp word key.items
 
--- A table has the last word with each mark, a list for each word the one before it with the same
--- mark, and each word stands once.
-pub record IsNumbering (words : List (List ℕ)) (last : BTreeMap ℕ (Option ℕ)) (before : List (Option ℕ))
+-- The number of a word whose mark an earlier word has, by a table.
+abbrev pub other_at : BTreeMap (Vec ℕ) (Option ℕ) → List ℕ → Option ℕ
+other_at others word = given (get_by (looks word) others)
+
+-- The number of a word, where the first word with its mark has a number.
+abbrev pub number_by : List (List ℕ) → BTreeMap (Vec ℕ) (Option ℕ) → List ℕ → Option ℕ → Option ℕ
+number_by words others word None = None
+number_by words others word (Some i) = if bytes_eq (word_at words i) word then Some i else other_at others word
+
+-- The number of a word by the tables: that of the first word with its mark, if that is the word.
+abbrev pub number_in : List (List ℕ) → BTreeMap ℕ (Option ℕ) → BTreeMap (Vec ℕ) (Option ℕ) → List ℕ → Option ℕ
+number_in words first others word = number_by words others word (first_with first (mark_of word))
+
+-- The tables give each word its number, and their numbers are those of words with the mark or the bytes.
+pub record IsNumbering (words : List (List ℕ)) (first : BTreeMap ℕ (Option ℕ)) (other : BTreeMap (Vec ℕ) (Option ℕ))
     : Type 0 where
-  pub size : length before ≡ length words
-  pub once : (i j : ℕ) → i < length words → j < length words → word_at words i ≡ word_at words j → i ≡ j
-  pub lasts : (mark : ℕ) → IsLastOf words mark (length words) (last_with last mark)
-  pub befores : (i : ℕ) → i < length words
-      → IsLastOf words (mark_of (word_at words i)) i (slice_index_or before i None)
-
--- The word may be the one with this number or one that is found from it, and no other.
-pub record LeadsTo (words : List (List ℕ)) (word : List ℕ) (number : Option ℕ) : Type 0 where
-  pub held : (i : ℕ) → number ≡ Some i → (i < length words) × (mark_of (word_at words i) ≡ mark_of word)
-  pub rest : (i : ℕ) → i < length words → word_at words i ≡ word → MatchOption number ⊥ (λ (j : ℕ). i ≤ j)
+  pub found : (i : ℕ) → i < length words → number_in words first other (word_at words i) ≡ Some i
+  pub firsts : (mark i : ℕ) → first_with first mark ≡ Some i → (i < length words) × (mark_of (word_at words i) ≡ mark)
+  pub others : (word : List ℕ) (i : ℕ) → other_at other word ≡ Some i → (i < length words) × (word_at words i ≡ word)
 
 -- Words may have been added; each number keeps its word.
 pub record KeepsWords (old new : List (List ℕ)) : Type 0 where

@@ -1,9 +1,10 @@
 //! The words of an index, each once, and their numbers.
 //! Allocates.
-ghost use Rattle.std.specs.Prelude.{◌≡◌, ℕ, [], ◌∷◌, ◌++◌, cond, length, IsSome, Some, None, IfOk, OnOk, OnErr};
+ghost use Rattle.std.specs.Prelude.{◌≡◌, ℕ, List, [], ◌∷◌, ◌++◌, cond, length, IsSome, Some, None, IfOk, OnOk, OnErr};
+ghost use Rattle.std.specs.Str.{bytes_eq};
 ghost use Rattle.std.specs.Ordering.{nat_cmp};
 ghost use Rattle.std.specs.BTreeMap.{get_by, is_at};
-ghost use Rattle.word_index.specs.Vocabulary.{last_with};
+ghost use Rattle.word_index.specs.Vocabulary.{first_with, other_at, looks};
 
 use crate::marks::mark_of;
 use arch_base::NoMemory;
@@ -12,23 +13,24 @@ use std::collections::BTreeMap;
 use std::marker::Model;
 use text_words::PackedWords;
 
-/// The number of the last word with each mark. A mark may be there before a word with it is.
-type LastWords = BTreeMap<u64, Option<u32>>;
+/// The number of the first word with each mark. A mark may be there before a word with it is.
+type FirstWords = BTreeMap<u64, Option<u32>>;
+
+/// The numbers of words whose mark an earlier word has. A key may be there before its word is.
+type OtherWords = BTreeMap<Vec<u8>, Option<u32>>;
 
 /// Words, each at the number that it got when it was added. None is removed.
 ///
-/// A contract sees it as the list of the words. A tree finds the last word with a mark, and from
-/// each word a number leads to the one before it with the same mark. So a look-up takes one search
-/// for a number, allocates nothing, and compares hardly any word but the one that it looks for.
-///
-/// Words that were chosen so that their marks are equal are compared one after the other: then a
-/// look-up takes as many comparisons as there are such words.
+/// A contract sees it as the list of the words. A tree finds the first word with a mark, and a
+/// second one, by their bytes, the words whose mark an earlier word has. So a look-up allocates
+/// nothing, and mostly takes one search for a number and compares one word. Whatever the words are,
+/// it takes at most two searches, each of some comparisons for each doubling of the words.
 #[derive(Drop)]
 pub struct Vocabulary {
     alloc: Global,
     words: PackedWords,
-    last: LastWords,
-    before: Vec<Option<u32>>,
+    first: FirstWords,
+    others: OtherWords,
 }
 
 impl Model for Vocabulary {
@@ -39,7 +41,7 @@ impl Model for Vocabulary {
 
     ghost view = { λ v. v.words };
 
-    ghost invariant = { λ v. IsNumbering v.words v.last v.before.items };
+    ghost invariant = { λ v. IsNumbering v.words v.first v.others };
 }
 
 impl Vocabulary {
@@ -53,8 +55,8 @@ impl Vocabulary {
         Vocabulary {
             alloc,
             words: PackedWords::new(alloc),
-            last: BTreeMap::new(alloc),
-            before: Vec::new(alloc),
+            first: BTreeMap::new(alloc),
+            others: BTreeMap::new(alloc),
         }
     }
 
@@ -96,14 +98,13 @@ impl Vocabulary {
         requires { mark ≡ mark_of text.now }
         ensures { IsNumberOf self.now text.now result }
     {
-        let mut at = last_with(&self.last, mark);
-        while let Some(number) = at {
-            if self.words.get(number as usize) == text {
-                return Some(number);
-            }
-            at = self.before[number as usize];
+        let Some(number) = first_with(&self.first, mark) else {
+            return None;
+        };
+        if self.words.get(number as usize) == text {
+            return Some(number);
         }
-        None
+        other_at(&self.others, text)
     }
 
     /// Adds a new word with its mark, and returns its number. `NoMemory` changes nothing.
@@ -114,51 +115,128 @@ impl Vocabulary {
         ensures added { OnOk result (self.new ≡ self.old ++ text.now ∷ []) }
         ensures err { OnErr result (self.new ≡ self.old) }
     {
-        let place = self.words.len();
-        // No more words have a place in memory.
-        let Ok(number) = u32::try_from(place) else {
-            return Err(NoMemory);
-        };
-        let before = hold_mark(&mut self.last, mark)?;
-        self.before.push(before)?;
-        if self.words.push(text).is_err() {
-            self.before.truncate(place);
-            return Err(NoMemory);
+        match first_with(&self.first, mark) {
+            None => add_first(&mut self.words, &mut self.first, mark, text),
+            Some(_) => add_other(self.alloc, &mut self.words, &mut self.others, text),
         }
-        set_last(&mut self.last, mark, number);
-        Ok(number)
     }
 }
 
-/// Returns the number of the last word with a mark, if there is one.
-fn last_with(last: &LastWords, mark: u64) -> Option<u32>
-    ensures { result ≡ last_with last.now mark }
+/// Returns the number of the next word. `NoMemory` if no more words have a place in memory.
+fn next_number(words: &PackedWords) -> Result<u32, NoMemory>
+    ensures { IfOk result (λ number. number ≡ length words.now) }
 {
-    match last.get(&mark) {
+    let Ok(number) = u32::try_from(words.len()) else {
+        return Err(NoMemory);
+    };
+    Ok(number)
+}
+
+/// Returns the number of the first word with a mark, if there is one.
+fn first_with(first: &FirstWords, mark: u64) -> Option<u32>
+    ensures { result ≡ first_with first.now mark }
+{
+    match first.get(&mark) {
         Some(number) => *number,
         None => None,
     }
 }
 
-/// Makes room for a mark, and returns the number of the last word with it. `NoMemory` changes
-/// nothing.
-fn hold_mark(last: &mut LastWords, mark: u64) -> Result<Option<u32>, NoMemory>
-    ensures is { IfOk result (λ number. number ≡ last_with last.old mark) }
-    ensures room { OnOk result (IsSome (get_by (nat_cmp mark) last.new)) }
-    ensures same { (m : ℕ) → last_with last.new m ≡ last_with last.old m }
+/// Returns the number of a word whose mark an earlier word has, if it is there.
+fn other_at(others: &OtherWords, text: &[u8]) -> Option<u32>
+    ensures { result ≡ other_at others.now text.now }
 {
-    if let Some(number) = last.get(&mark) {
-        return Ok(*number);
+    match others.get(text) {
+        Some(number) => *number,
+        None => None,
     }
-    last.insert(mark, None)?;
-    Ok(None)
 }
 
-/// Makes a word the last one with a mark, for which there is room.
-fn set_last(last: &mut LastWords, mark: u64, number: u32)
-    requires { IsSome (get_by (nat_cmp mark) last.old) }
-    ensures { (m : ℕ) → last_with last.new m
-        ≡ cond (is_at (nat_cmp mark) m) (Some number) (last_with last.old m) }
+/// Appends a word that is the first one with its mark, and returns its number. `NoMemory` changes
+/// nothing.
+fn add_first(
+    words: &mut PackedWords,
+    first: &mut FirstWords,
+    mark: u64,
+    text: &[u8],
+) -> Result<u32, NoMemory>
+    ensures ok { IfOk result (λ number. number ≡ length words.old) }
+    ensures added { OnOk result (words.new ≡ words.old ++ text.now ∷ []) }
+    ensures err { OnErr result (words.new ≡ words.old) }
+    ensures set { OnOk result ((m : ℕ) → first_with first.new m
+        ≡ cond (is_at (nat_cmp mark) m) (Some (length words.old)) (first_with first.old m)) }
+    ensures same { OnErr result ((m : ℕ) → first_with first.new m ≡ first_with first.old m) }
 {
-    let _ = last.insert(mark, Some(number));
+    let number = next_number(words)?;
+    hold_mark(first, mark)?;
+    words.push(text)?;
+    set_first(first, mark, number);
+    Ok(number)
+}
+
+/// Makes room for a mark. `NoMemory` changes nothing.
+fn hold_mark(first: &mut FirstWords, mark: u64) -> Result<(), NoMemory>
+    ensures room { OnOk result (IsSome (get_by (nat_cmp mark) first.new)) }
+    ensures same { (m : ℕ) → first_with first.new m ≡ first_with first.old m }
+{
+    if first.contains_key(&mark) {
+        return Ok(());
+    }
+    first.insert(mark, None)?;
+    Ok(())
+}
+
+/// Makes a word the first one with a mark, for which there is room.
+fn set_first(first: &mut FirstWords, mark: u64, number: u32)
+    requires { IsSome (get_by (nat_cmp mark) first.old) }
+    ensures { (m : ℕ) → first_with first.new m
+        ≡ cond (is_at (nat_cmp mark) m) (Some number) (first_with first.old m) }
+{
+    let _ = first.insert(mark, Some(number));
+}
+
+/// Appends a word whose mark an earlier word has, and returns its number. `NoMemory` changes
+/// nothing.
+fn add_other(
+    alloc: Global,
+    words: &mut PackedWords,
+    others: &mut OtherWords,
+    text: &[u8],
+) -> Result<u32, NoMemory>
+    ensures ok { IfOk result (λ number. number ≡ length words.old) }
+    ensures added { OnOk result (words.new ≡ words.old ++ text.now ∷ []) }
+    ensures err { OnErr result (words.new ≡ words.old) }
+    ensures set { OnOk result ((w : List ℕ) → other_at others.new w
+        ≡ cond (bytes_eq text.now w) (Some (length words.old)) (other_at others.old w)) }
+    ensures same { OnErr result ((w : List ℕ) → other_at others.new w ≡ other_at others.old w) }
+{
+    let number = next_number(words)?;
+    hold_word(alloc, others, text)?;
+    words.push(text)?;
+    set_other(others, text, number);
+    Ok(number)
+}
+
+/// Makes room for a word. `NoMemory` changes nothing.
+fn hold_word(alloc: Global, others: &mut OtherWords, text: &[u8]) -> Result<(), NoMemory>
+    ensures room { OnOk result (IsSome (get_by (looks text.now) others.new)) }
+    ensures same { (w : List ℕ) → other_at others.new w ≡ other_at others.old w }
+{
+    if others.contains_key(text) {
+        return Ok(());
+    }
+    let key = text.to_vec(alloc)?;
+    others.insert(key, None)?;
+    Ok(())
+}
+
+/// Sets the number of a word, for which there is room.
+fn set_other(others: &mut OtherWords, text: &[u8], number: u32)
+    requires { IsSome (get_by (looks text.now) others.old) }
+    ensures { (w : List ℕ) → other_at others.new w
+        ≡ cond (bytes_eq text.now w) (Some number) (other_at others.old w) }
+{
+    if let Some(slot) = others.get_mut(text) {
+        *slot = Some(number);
+    }
 }

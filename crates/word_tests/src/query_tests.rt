@@ -9,12 +9,14 @@ use std::test::Fail;
 use word_index::WordIndex;
 
 /// Queries, and the numbers that they find.
-static QUERIES: [Case<&'static [u32]>; 89] = cases![
+static QUERIES: [Case<&'static [u32]>; 91] = cases![
     b"" => &[2, 3, 5, 7, 11, 13, 17, 19, 23, 29, 31, 2_147_483_647],
     b" " => &[2, 3, 5, 7, 11, 13, 17, 19, 23, 29, 31, 2_147_483_647],
     b"   " => &[2, 3, 5, 7, 11, 13, 17, 19, 23, 29, 31, 2_147_483_647],
     b"first" => &[2, 5, 29],
     b"FIRST" => &[2, 5, 29],
+    b"mmoklnoogoonlkom" => &[2],
+    b"mnkonlklslklnokn" => &[3],
     b"firs" => &[],
     b"firstx" => &[],
     b"s:first" => &[2, 5],

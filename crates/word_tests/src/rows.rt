@@ -22,13 +22,14 @@ pub(crate) struct Row {
 }
 
 /// The messages. Those of 1 and 2 February 2024 that are `late` and `early` are of the other day in
-/// the zone in which their date was written.
+/// the zone in which their date was written. The last words of the first two
+/// bodies have one mark.
 pub(crate) static ROWS: [Row; 12] = [
     Row {
         number: 2,
         subject: b"first",
         from: b"Ann <ann@example.org>",
-        body: b"one\n",
+        body: b"one mmoklnoogoonlkom\n",
         moment: Moment {
             secs: 1_706_781_600,
             zone: 0,
@@ -38,7 +39,7 @@ pub(crate) static ROWS: [Row; 12] = [
         number: 3,
         subject: b"second",
         from: b"Bob <bob@example.org>",
-        body: b"two\n",
+        body: b"two mnkonlklslklnokn\n",
         moment: Moment {
             secs: 1_706_918_399,
             zone: 0,
