@@ -4,14 +4,16 @@ import functools
 import imaplib
 import os
 import re
+import shutil
 import smtplib
 import subprocess
+import tempfile
 import time
 from email.message import EmailMessage
 
 from lib import judging
 from lib.archive import Archive, wire
-from lib.documents import block_with, commands_of
+from lib.documents import block_with, commands_of, line_with
 from lib.judging import REPO, judge, run
 from lib.served import ANSWER, Client, Server
 from lib.terminals import Terminal
@@ -350,6 +352,70 @@ def deliver_by_document(post):
         post.came(text)
 
 
+POSTFIX = """compatibility_level = 3.6
+queue_directory = {home}/queue
+data_directory = {home}/data
+maillog_file = {home}/log
+maillog_file_prefixes = {home}
+inet_interfaces = loopback-only
+inet_protocols = ipv4
+myhostname = host.example.org
+mydestination =
+alias_maps =
+alias_database =
+relay_domains = lists.example.org
+{maps}
+"""
+# The services that a message from this machine goes through.
+SERVICES = """pickup unix n - n 60 1 pickup
+cleanup unix n - n - 0 cleanup
+qmgr unix n - n 300 1 qmgr
+rewrite unix - - n - - trivial-rewrite
+bounce unix - - n - 0 bounce
+defer unix - - n - 0 bounce
+trace unix - - n - 0 bounce
+error unix - - n - - error
+retry unix - - n - - error
+lmtp unix - - n - - lmtp
+postlog unix-dgram n - n - 1 postlogd
+"""
+
+
+def deliver_by_postfix(post):
+    """Has a postfix of the test's own, with the transport of docs/SERVING.md, hand over a message."""
+    if os.getuid() or tool("postfix") is None:
+        return
+    home = tempfile.mkdtemp()
+    os.chmod(home, 0o755)
+    for name in ("queue", "data", "conf"):
+        os.mkdir(f"{home}/{name}")
+    shutil.chown(f"{home}/data", "postfix")
+    maps = line_with("docs/SERVING.md", "transport_maps").replace("/etc/postfix", f"{home}/conf")
+    for name, text in (("main.cf", POSTFIX.format(home=home, maps=maps)), ("master.cf", SERVICES), ("transport", moved(block_with("docs/SERVING.md", "lmtp:inet"), post.port))):
+        with open(f"{home}/conf/{name}", "w", encoding="utf-8") as file:
+            file.write(text)
+    try:
+        status, printed, said = run("sh", "-c", f"postmap -c {home}/conf {home}/conf/transport && postfix -c {home}/conf start")
+        judge(status == 0, f"the start of postfix: {printed!r} {said!r}")
+        hand_to_postfix(post, home)
+    finally:
+        run("postfix", "-c", f"{home}/conf", "stop")
+        shutil.rmtree(home)
+
+
+def hand_to_postfix(post, home):
+    """Sends a message, and waits until postfix has handed it over: with a field more."""
+    number = post.archive.next
+    text, end = plain(number), time.monotonic() + 2 * ANSWER
+    words = ["sendmail", "-C", f"{home}/conf", "-i", "-f", "ada@example.org", "list@lists.example.org"]
+    done = subprocess.run(words, input=text, stdout=subprocess.PIPE, stderr=subprocess.STDOUT, timeout=ANSWER, check=False)
+    judge(done.returncode == 0, f"a message for postfix: {done.returncode} {done.stdout!r}")
+    while (found := post.control.show(number)) == b"7 not live %d" % number and time.monotonic() < end:
+        time.sleep(0.1)
+    judge(re.sub(rb"\AReceived: .*\n(?:\t.*\n)*", b"", found) == text, f"what postfix hands over: {found!r}")
+    post.archive.append(found, 0)
+
+
 # --- Clients that idle.
 
 
@@ -420,8 +486,10 @@ def idle(post):
         client.told()
     client.end(post.numbers(index))
     if shown:
-        judge(shown.until(b"New mail in this mailbox|Mailbox was externally modified"), f"mutt tells of new mail: {shown.plain()!r}")
-        typed(shown, b"", b"Msgs:%d " % len(post.numbers(index)))
+        wanted, end = b"Msgs:%d " % len(post.numbers(index)), time.monotonic() + ANSWER
+        while not shown.until(wanted, seconds=1) and time.monotonic() < end:
+            shown.type(REDRAW)
+        judge(re.search(wanted, shown.plain()), f"mutt shows what came and went: {shown.plain()!r}")
         shown.close()
 
 
@@ -454,6 +522,7 @@ def check(program, folder, port):
         copy_by_offlineimap(post)
         copy_by_fetchmail(post)
         deliver_by_document(post)
+        deliver_by_postfix(post)
         idle(post)
         post.end()
     finally:

@@ -24,9 +24,9 @@ class Terminal:
         fcntl.ioctl(self.file, termios.TIOCSWINSZ, struct.pack("HHHH", 30, 100, 0, 0))
         self.said = b""
 
-    def until(self, *patterns):
+    def until(self, *patterns, seconds=ANSWER):
         """Reads until all these have been shown since the last key, and returns whether they were."""
-        end = time.monotonic() + ANSWER
+        end = time.monotonic() + seconds
         while not all(re.search(it, self.plain()) for it in patterns):
             if not select.select([self.file], [], [], max(end - time.monotonic(), 0))[0]:
                 return False
