@@ -5,7 +5,8 @@ A process of its own mounts it with `fusepy`, over /dev/fuse. It takes no more f
 is trusted" says of a disk. A sync of a file brings its bytes and its length to the disk, one of its bytes alone
 no length, one of a folder the names in it, and nothing else does. What was written since the last sync of a file
 may be there, in part, or be other bytes, each within its range, and its length may be any that it had; each name
-that changed since the last sync of its folder may stand for any file that it had since, or for none."""
+that changed since the last sync of its folder may stand for any file that it had since, or for none. A sync of a
+file may fail, too, and then drops what was written since the one before."""
 import errno
 import functools
 import multiprocessing
@@ -33,31 +34,49 @@ except ImportError:
 # The file to which a run of the program writes its answer: no image has it, and the file system knows by it when
 # the answer was given.
 ANSWER = "answer"
+MARK = "sync-failed"
 STYLES = ("old", "new", "mixed", "mixed", "mixed", "mixed")
 
 
 class File:
-    """The bytes of a file, and what of them is on the disk."""
+    """The bytes of a file, and what of them is on the disk.
+
+    `dropped` has the ranges of writes whose sync failed: reads give them, and no sync brings them to the disk
+    before they are written again."""
 
     def __init__(self, data=b""):
-        self.data, self.handles = bytearray(data), 0
-        self.synced()
+        self.data, self.base, self.written, self.dropped = bytearray(data), bytes(data), [], []
+        self.least = self.most = len(data)
 
     def synced(self):
         """Brings bytes and length to the disk."""
-        self.least = self.most = len(self.data)
         self.bytes_synced()
+        if not self.dropped:
+            self.least = self.most = len(self.data)
 
     def bytes_synced(self):
         """Brings the bytes to the disk, and not the length."""
-        self.base, self.written = bytes(self.data), []
+        base = bytearray(self.data)
+        for begin, end in self.dropped:
+            old = self.base[begin:end]
+            base[begin:end] = old + bytes(max(min(end, len(base)) - begin - len(old), 0))
+        self.base, self.written = bytes(base), [(begin, bytes(self.data[begin:end]), True) for begin, end in self.dropped]
 
-    def write(self, offset, data):
+    def failed(self):
+        """Drops what was written since the last sync."""
+        self.dropped += [(offset, offset + len(data)) for offset, data, _ in self.written]
+
+    def write(self, offset, data, may_tear):
+        """Writes bytes. A write that may tear leaves any bytes in its range, if a power cut meets it; else old
+        ones or new ones."""
+        end = offset + len(data)
         if offset > len(self.data):
             self.data.extend(bytes(offset - len(self.data)))
-        self.data[offset : offset + len(data)] = data
+        self.data[offset:end] = data
         self.most = max(self.most, len(self.data))
-        self.written.append((offset, bytes(data)))
+        self.written.append((offset, bytes(data), may_tear))
+        parts = [it for begin, stop in self.dropped for it in ((begin, min(stop, offset)), (max(begin, end), stop))]
+        self.dropped = [(begin, stop) for begin, stop in parts if begin < stop]
 
     def cut(self, length):
         self.data = self.data[:length] + bytes(max(length - len(self.data), 0))
@@ -72,8 +91,8 @@ class File:
         length = chance.choice((self.least, self.most, len(self.data), chance.randint(self.least, self.most)))
         found = bytearray(self.base[: self.most])
         found += other_bytes(chance, self.most - len(found))
-        for offset, data in self.written:
-            write_in_part(chance, found, offset, data)
+        for offset, data, may_tear in self.written:
+            write_in_part(chance, found, offset, data, may_tear)
         if chance.random() < 0.3:
             found[self.least :] = other_bytes(chance, len(found) - self.least)
         return bytes(found[:length])
@@ -85,15 +104,15 @@ def other_bytes(chance, count):
     return chance.randbytes(count) if kind == 0 else bytes([chance.choice((0, 0, 1, 255))]) * count
 
 
-def write_in_part(chance, found, offset, data):
+def write_in_part(chance, found, offset, data, may_tear):
     """Writes bytes as a power cut may leave them: all, none, a part, or others."""
-    kind, count = chance.randrange(5), len(data)
-    if kind == 1:
+    kind, count = chance.choice(("all", "none", "part", "front", "others")), len(data)
+    if kind == "none" or kind == "others" and not may_tear:
         return
-    if kind == 2:
+    if kind == "others":
         data = other_bytes(chance, count)
-    begin, end = (0, count) if kind in (0, 2) else sorted((chance.randint(0, count), chance.randint(0, count)))
-    if kind == 4:
+    begin, end = sorted((chance.randint(0, count), chance.randint(0, count))) if kind in ("part", "front") else (0, count)
+    if kind == "front":
         begin = 0
     found[offset + begin : offset + end] = data[begin:end]
 
@@ -137,7 +156,7 @@ class Disk:
     def __init__(self, lost):
         self.lost, self.guard = lost, threading.Lock()
         self.top, self.handles, self.next = Folder(), {}, 1
-        self.chance, self.share, self.calls, self.kill_at, self.images, self.answered = None, 0, 0, None, [], False
+        self.watch(None, 0, None, None)
 
     def __call__(self, name, *given):
         """Carries out a call of the kernel."""
@@ -153,15 +172,16 @@ class Disk:
         """Has the files of an image, all on the disk."""
         self.top, self.handles = durable(image), {}
 
-    def watch(self, chance, share, kill_at):
-        """Draws an image at each call that changes something, with a probability, and kills the process that
-        makes the call of a number."""
-        self.chance, self.share, self.kill_at, self.calls, self.images, self.answered = chance, share, kill_at, 0, [], False
+    def watch(self, chance, share, kill_at, fail_at):
+        """Draws an image at each call that changes something, with a probability. Kills the process that makes
+        the call of a number, and has the first sync of a file from a number on fail."""
+        self.chance, self.share, self.kill_at, self.fail_at = chance, share, kill_at, fail_at
+        self.calls, self.images, self.answered = 0, [], False
 
     def seen(self):
         """Returns how many calls there were, and the images, each with its call and whether the answer was given.
-        No process is killed from now on."""
-        self.kill_at = None
+        No process is killed and no sync fails from now on."""
+        self.kill_at = self.fail_at = None
         return self.calls, self.images
 
     def cut(self, count):
@@ -178,6 +198,11 @@ class Disk:
             self.images.append((f"{words}, call {self.calls}", self.cut(1)[0], self.answered))
         if self.calls == self.kill_at:
             os.kill(fusepy.fuse_get_context()[2], signal.SIGKILL)
+
+    def is_marked(self):
+        """Returns whether a folder has the mark of a sync that failed. The run that finds it writes all bytes once
+        more, also those that are on the disk: such writes are taken not to destroy them."""
+        return any(isinstance(it, Folder) and MARK in it.names for it in self.top.names.values())
 
     # The calls of the kernel.
 
@@ -257,7 +282,8 @@ class Disk:
     rmdir = unlink
 
     def write(self, path, data, offset, handle):
-        self.opened(path, handle).write(offset, data)
+        item = self.opened(path, handle)
+        item.write(offset, data, not self.is_marked() or item.data[offset : offset + len(data)] != data)
         self.note(f"writing {path}")
         return len(data)
 
@@ -268,8 +294,12 @@ class Disk:
     def fsync(self, path, only_bytes, handle):
         words = f"the {'bytes' if only_bytes else 'file'} {path}"
         self.note(f"syncing {words}")
+        item = self.opened(path, handle)
+        if self.fail_at is not None and self.calls >= self.fail_at:
+            self.fail_at = None
+            item.failed()
+            raise fusepy.FuseOSError(errno.EIO)
         if not re.fullmatch(self.lost, words):
-            item = self.opened(path, handle)
             item.bytes_synced() if only_bytes else item.synced()
 
     def fsyncdir(self, path, _only_bytes, handle):
