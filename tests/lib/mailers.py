@@ -383,7 +383,10 @@ postlog unix-dgram n - n - 1 postlogd
 
 def deliver_by_postfix(post):
     """Has a postfix of the test's own, with the transport of docs/SERVING.md, hand over a message."""
-    if os.getuid() or tool("postfix") is None:
+    if tool("postfix") is None:
+        return
+    if os.getuid():
+        judging.skip("postfix: skipped, since root alone starts it")
         return
     home = tempfile.mkdtemp()
     os.chmod(home, 0o755)
