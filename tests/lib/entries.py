@@ -1,4 +1,4 @@
-"""Entries as git objects: reading them from the bytes of epochs, and letting git judge them."""
+"""Entries as git objects: reading them from the bytes of epochs, letting git judge them, and what they must be."""
 import hashlib
 import os
 import re
@@ -122,3 +122,58 @@ def accept_folder(folder, room):
     said = [line for line in git(store, "fsck", "--full", "--strict", "--no-dangling") if not line.startswith("notice")]
     assert not said, said
     return total
+
+
+def read_entries(folder):
+    """Yields the kind and the text of each entry in the epochs of a folder, in order."""
+    for _, name in texts_in(folder)[0]:
+        with open(f"{folder}/{name}", "rb") as file:
+            objects = list(objects_of(file.read()))
+        for (_, text), (_, tree) in zip(objects[::3], objects[1::3], strict=True):
+            yield tree[len(b"100644 ") :][:1], text
+
+
+def live_in(folder):
+    """Returns the texts of the live messages in the files of a folder by their numbers, and the next number."""
+    records = b""
+    for name in os.listdir(folder):
+        if re.fullmatch(r"map\.[0-9]+", name):
+            with open(f"{folder}/{name}", "rb") as file:
+                records += file.read()
+    numbers = [at // 28 + 1 for at in range(0, len(records), 28) if records[at + 4 : at + 8] != b"\xff" * 4]
+    live, place = {}, 0
+    for kind, text in read_entries(folder):
+        if kind == b"m":
+            live[numbers[place]] = text
+            place += 1
+        else:
+            del live[next(it for it, other in live.items() if other == text)]
+    return live, len(records) // 28 + 1
+
+
+class Entries:
+    """What an archive must hold: the texts of all entries in order, those of the live numbers, and the
+    next number."""
+
+    def __init__(self):
+        self.texts, self.live, self.next = [], {}, 1
+
+    def deliver(self, text):
+        self.texts.append(text)
+        self.live[self.next] = text
+        self.next += 1
+
+    def remove(self, number):
+        self.texts.append(self.live.pop(number))
+
+    def purge(self, number):
+        gone = self.live[number]
+        self.texts = [text for text in self.texts if text != gone]
+        self.live = {n: text for n, text in self.live.items() if text != gone}
+
+    def edit(self, number, text):
+        self.purge(number)
+        self.deliver(text)
+
+    def counts(self):
+        return len(self.texts), len(self.live), self.next
