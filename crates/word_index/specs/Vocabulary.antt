@@ -42,18 +42,23 @@ other_at others word = given (get_by (looks word) others)
 -- The number of a word, where the first word with its mark has a number.
 abbrev pub number_by : List (List ℕ) → BTreeMap (Vec ℕ) (Option ℕ) → List ℕ → Option ℕ → Option ℕ
 number_by words others word None = None
-number_by words others word (Some i) = if bytes_eq (word_at words i) word then Some i else other_at others word
+number_by words others word (Some i) =
+    if bytes_eq (word_at words i) word then Some i else other_at others word
 
 -- The number of a word by the tables: that of the first word with its mark, if that is the word.
-abbrev pub number_in : List (List ℕ) → BTreeMap ℕ (Option ℕ) → BTreeMap (Vec ℕ) (Option ℕ) → List ℕ → Option ℕ
+abbrev pub number_in : List (List ℕ) → BTreeMap ℕ (Option ℕ) → BTreeMap (Vec ℕ) (Option ℕ) → List ℕ
+    → Option ℕ
 number_in words first others word = number_by words others word (first_with first (mark_of word))
 
 -- The tables give each word its number, and their numbers are those of words with the mark or the bytes.
-pub record IsNumbering (words : List (List ℕ)) (first : BTreeMap ℕ (Option ℕ)) (other : BTreeMap (Vec ℕ) (Option ℕ))
+pub record IsNumbering (words : List (List ℕ)) (first : BTreeMap ℕ (Option ℕ))
+    (other : BTreeMap (Vec ℕ) (Option ℕ))
     : Type 0 where
   pub found : (i : ℕ) → i < length words → number_in words first other (word_at words i) ≡ Some i
-  pub firsts : (mark i : ℕ) → first_with first mark ≡ Some i → (i < length words) × (mark_of (word_at words i) ≡ mark)
-  pub others : (word : List ℕ) (i : ℕ) → other_at other word ≡ Some i → (i < length words) × (word_at words i ≡ word)
+  pub firsts : (mark i : ℕ) → first_with first mark ≡ Some i
+      → (i < length words) × (mark_of (word_at words i) ≡ mark)
+  pub others : (word : List ℕ) (i : ℕ) → other_at other word ≡ Some i
+      → (i < length words) × (word_at words i ≡ word)
 
 -- Words may have been added; each number keeps its word.
 pub record KeepsWords (old new : List (List ℕ)) : Type 0 where
