@@ -1,5 +1,5 @@
 -- A piece at a door that only reads leaves how the archive stands, where the keeper is ready, and it stays ready.
-use Rattle.std.proofs.Common.{◌≡◌, ℕ, true, false, List, [], ◌∷◌, ◌++◌, Option, Some, None, sym, ap, subst, ◌∙◌}
+use Rattle.std.proofs.Common.{◌≡◌, ℕ, true, List, [], ◌∷◌, ◌++◌, Option, Some, None, sym, ap, subst, ◌∙◌}
 use Rattle.std.proofs.lemmas.Bool.{false≢true}
 use Rattle.line_door.specs.Acts.{ConnectionState, Departure, Acts}
 use Rattle.line_door.specs.Course.{SessionState, talk, Requests, Last}
