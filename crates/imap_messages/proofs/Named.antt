@@ -109,7 +109,7 @@ module _ (a : Archive) (f : FetchAsked) (told : List ℕ) (i n : ℕ) (within : 
     under-line lives reply gone begun from waiting at before new k given =
         under-more reply (fetch_lines a f (named_from f told i) gone) begun from waiting at before (message_line a (shown_items f.numbering f.items) (told_message (i + 1) n)) (fetch_lines a f (named_from f told (i + 1)) gone) new k (left-line gone lives) (line-some a f (i + 1) n lives) given
 
--- All that is named is named from the first index on, and none from behind the last.
+-- All that is named is named from the first index on, and none from after the last.
 pub named-all : (f : FetchAsked) (told : List ℕ) → picked f.numbering f.set told ≡ named_from f told 0
 unfolding picked
 named-all f told = refl

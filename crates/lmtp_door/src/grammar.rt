@@ -1,7 +1,7 @@
 //! Reads commands from their lines.
 //! Pure.
 //!
-//! The command word is all up to the first space, and its argument all behind it.
+//! The command word is all up to the first space, and its argument all after it.
 ghost use Rattle.std.specs.Prelude.{◌≡◌, ◌≤◌, true, length, option_copied};
 ghost use Rattle.std.specs.List.{prefix_len};
 ghost use Rattle.mail_address.specs.Addresses.{mailbox_of};
@@ -34,7 +34,7 @@ fn word(line: &[u8]) -> &[u8]
     line.split_at(word_len(line)).0
 }
 
-/// Returns the bytes behind the first space, or `None` without one.
+/// Returns the bytes after the first space, or `None` without one.
 fn argument(line: &[u8]) -> Option<&[u8]>
     ensures { option_copied result ≡ argument_of line.now }
 {

@@ -47,11 +47,6 @@ impl PackedWords {
         self.ends.len()
     }
 
-    /// Returns whether there are no words.
-    pub fn is_empty(&self) -> bool {
-        self.ends.is_empty()
-    }
-
     /// Returns the word with an index, counted from 0.
     pub fn get(&self, index: usize) -> &[u8]
         requires { index < length self.now }
