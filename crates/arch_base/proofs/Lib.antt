@@ -1,2 +1,2 @@
 pub mod Digits
-pub mod Digits40
+pub mod HexDigits

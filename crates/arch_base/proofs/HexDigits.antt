@@ -1,5 +1,6 @@
 -- Decoding encoded bytes gives them back; equal bytes compare as equal.
-use Rattle.std.proofs.Common.{◌∷◌, [], true, eq-eqb, ◌≡◌, ℕ, List, length, Result, Ok, Err, MatchResult, refl, ◌∙◌, ap}
+use Rattle.std.proofs.Common.{◌∷◌, [], true, eq-eqb, ◌≡◌, ℕ, List, length, Result, Ok, Err, MatchResult, refl, ◌∙◌, ap, sym, ◌≤◌, take}
+use Rattle.std.proofs.lemmas.List.{length-take-le}
 use Rattle.std.specs.Str.{bytes_eq}
 use Rattle.hex.specs.Hex.{encode_lower, decode_sized, IsBytes}
 use Rattle.hex.specs.declared.error.FromHexError.{FromHexError}
@@ -9,10 +10,11 @@ use Rattle.hex.proofs.HexLemmas.{decode_sized-encode_lower}
 abbrev pub Decodes : List ℕ → ℕ → List ℕ → Result Unit FromHexError → Type 0
 Decodes text room out answer = MatchResult (decode_sized text room) (λ bytes. (answer ≡ Ok tt) × (out ≡ bytes)) (λ e. answer ≡ Err e)
 
--- Decoding the digits of bytes returns those bytes.
-pub decodes-encode : (text xs out : List ℕ) (room : ℕ) (answer : Result Unit FromHexError) → length xs ≡ room → IsBytes xs → text ≡ encode_lower xs → Decodes text room out answer → (answer ≡ Ok tt) × (out ≡ xs)
-decodes-encode text xs out room answer len bytes is h =
-    let decoded : decode_sized text room ≡ Ok xs = ap (λ t. decode_sized t room) is ∙ decode_sized-encode_lower xs room len bytes in
+-- Decoding the digits of bytes into the front of a buffer, as long as they are, returns those bytes.
+pub decodes-encode : (text xs buffer out : List ℕ) (room : ℕ) (answer : Result Unit FromHexError) → length xs ≡ room → room ≤ length buffer → IsBytes xs → text ≡ encode_lower xs → Decodes text (length (take room buffer)) out answer → (answer ≡ Ok tt) × (out ≡ xs)
+decodes-encode text xs buffer out room answer len fits bytes is h =
+    let sized : length xs ≡ length (take room buffer) = len ∙ sym (length-take-le room buffer fits) in
+    let decoded : decode_sized text (length (take room buffer)) ≡ Ok xs = ap (λ t. decode_sized t (length (take room buffer))) is ∙ decode_sized-encode_lower xs _ sized bytes in
     rw decoded at h
 
 -- `bytes_eq` returns true for equal bytes.
