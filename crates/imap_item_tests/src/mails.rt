@@ -1,6 +1,6 @@
 //! Mails, their rows, and items of them.
 //! Allocates.
-use arch_base::{Bytes, Id20, NoMemory, Texts};
+use arch_base::{Bytes, NoMemory, ObjectId, Texts};
 use imap_items::{divides, item, item_of_parts};
 use imap_syntax::Item;
 use mail_date::Moment;
@@ -28,7 +28,7 @@ pub(crate) const SEALED: &[u8] =
 pub(crate) fn row(alloc: Global, number: u32, wire: u64) -> Row {
     Row {
         number,
-        blob: Id20([0; 20]),
+        blob: ObjectId::Sha1([0; 20]),
         id: Bytes::new(alloc),
         refs: Texts::new(alloc),
         subject: Bytes::new(alloc),

@@ -10,7 +10,7 @@
 
 ghost use Rattle.std.specs.Prelude.{◌<◌, ◌≤◌, length};
 
-use arch_base::{Bytes, Id20, NoMemory, Texts};
+use arch_base::{Bytes, NoMemory, ObjectId, Texts};
 use imap_items::{item, matches};
 use imap_syntax::{Ask, AskRefusal, Item, Key, read};
 use mail_date::Moment;
@@ -56,7 +56,7 @@ fn line_len(input: &[u8]) -> usize
 fn row(alloc: Global, text: &[u8]) -> Row {
     Row {
         number: 1,
-        blob: Id20([0; 20]),
+        blob: ObjectId::Sha1([0; 20]),
         id: Bytes::new(alloc),
         refs: Texts::new(alloc),
         subject: Bytes::new(alloc),

@@ -1,6 +1,7 @@
 //! Tests of each call with ample memory, against values worked out elsewhere.
 use arch_base::{
-    Bytes, Config, Id20, Name, NoMemory, Numbers, Texts, decimal, hex_of, id_of_hex, read_decimal,
+    Bytes, Config, Form, Name, NoMemory, Numbers, ObjectId, Texts, decimal, hex_of, id_of_hex,
+    read_decimal,
 };
 use fixtures::{Case, cases};
 use std::alloc::Global;
@@ -101,25 +102,45 @@ fn decimals_are_read(rt: HostRuntime) {
     }
 }
 
-/// Texts that are no ids in lower case.
-const OTHER_IDS: [&[u8]; 3] = [
+/// Texts that are no ids of the form SHA-1 in lower case.
+const OTHER_IDS: [&[u8]; 4] = [
     b"CE0000000000000000000000000000000000004a",
     b"ce0000000000000000000000000000000000004",
     b"ce0000000000000000000000000000000000004g",
+    b"ce0000000000000000000000000000000000000000000000000000000000004a",
 ];
+
+/// Returns the id of a form with the first byte 206, the last one 74, and zeros between.
+fn sample_id(form: Form) -> ObjectId {
+    let mut bytes = [0u8; 32];
+    bytes[0] = 0xce;
+    let last = form.id_size() - 1;
+    bytes[last] = 0x4a;
+    ObjectId::from_slice(&bytes[..form.id_size()], form)
+}
 
 #[test]
 fn ids_are_spelled_and_read(rt: HostRuntime) {
-    let mut bytes = [0u8; 20];
-    bytes[0] = 0xce;
-    bytes[19] = 0x4a;
-    let id = Id20(bytes);
+    let id = sample_id(Form::Sha1);
     let text = b"ce0000000000000000000000000000000000004a";
+    assert!(rt; id.form() == Form::Sha1);
     assert!(rt; hex_of(&id).as_slice() == text.as_slice());
-    assert!(rt; id_of_hex(text) == Some(id));
+    assert!(rt; id_of_hex(text, Form::Sha1) == Some(id));
     for text in &OTHER_IDS {
-        assert!(rt; id_of_hex(text).is_none());
+        assert!(rt; id_of_hex(text, Form::Sha1).is_none());
     }
+}
+
+#[test]
+fn ids_of_sha_256_are_spelled_and_read(rt: HostRuntime) {
+    let id = sample_id(Form::Sha256);
+    let text = b"ce0000000000000000000000000000000000000000000000000000000000004a";
+    assert!(rt; id.form() == Form::Sha256);
+    assert!(rt; id != sample_id(Form::Sha1));
+    assert!(rt; hex_of(&id).as_slice() == text.as_slice());
+    assert!(rt; id_of_hex(text, Form::Sha256) == Some(id));
+    assert!(rt; id_of_hex(text, Form::Sha1).is_none());
+    assert!(rt; id_of_hex(&text[..40], Form::Sha256).is_none());
 }
 
 /// Returns whether a copy of settings keeps the name, the limit, the largest number and `mirror`.

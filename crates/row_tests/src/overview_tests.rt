@@ -1,5 +1,5 @@
 //! The overview of rows, beside what the rules say of them.
-use arch_base::{Bytes, Id20, MessageNumbers, NoMemory, Texts};
+use arch_base::{Bytes, MessageNumbers, NoMemory, ObjectId, Texts};
 use mail_date::Moment;
 use mail_forms::Row;
 use overview_index::Overview;
@@ -11,7 +11,7 @@ fn row(alloc: Global, number: u32, id: &[u8], secs: u64) -> Result<Row, NoMemory
     own.push_slice(id)?;
     Ok(Row {
         number,
-        blob: Id20([0; 20]),
+        blob: ObjectId::Sha1([0; 20]),
         id: own,
         refs: Texts::new(alloc),
         subject: Bytes::new(alloc),
