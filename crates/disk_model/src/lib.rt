@@ -22,4 +22,4 @@ pub use memory::MemDisk;
 pub use name::{FileKind, FileName};
 pub use refusal::WalkRefusal;
 pub use settle::write_and_sync;
-pub use sizes::{EPOCHS, LAST_EPOCH, RECORD_SIZE};
+pub use sizes::{EPOCHS, LAST_EPOCH, record_size, records_size};
