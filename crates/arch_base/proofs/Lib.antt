@@ -1,3 +1,4 @@
 pub mod Digits
 pub mod HexDigits
 pub mod SameIds
+pub mod IdOrder

@@ -1,6 +1,10 @@
 -- Ids of git objects, in two forms (git, "hash-function-transition").
 use Rattle.std.specs.Prelude.{◌≡◌, ◌<◌, ◌^◌, ℕ, List, length, slice_index, Bool, false}
 use Rattle.std.specs.Str.{bytes_eq}
+use Rattle.std.specs.Ordering.{nat_cmp}
+use Rattle.std.specs.declared.cmp.Ordering.TheVariants.{Less, Greater}
+use Rattle.std.specs.declared.cmp.Ordering.{Ordering}
+use Rattle.std.specs.Cmp.Lexicographic.{slice_cmp}
 use Rattle.arch_base.specs.declared.ids.Form.{Form}
 use Rattle.arch_base.specs.declared.ids.Form.TheVariants as form
 use Rattle.arch_base.specs.declared.ids.ObjectId.{ObjectId}
@@ -31,6 +35,13 @@ pub record IsObjectId (form : Form) (id : ObjectId) : Type 0 where
   pub form_is : form_of id ≡ form
   pub len : length (id_bytes id) ≡ id_size form
   pub bytes : (k : ℕ) → slice_index (id_bytes id) k < 2 ^ 8
+
+-- The order of ids: by form, then by bytes.
+abbrev pub id_cmp : ObjectId → ObjectId → Ordering
+id_cmp (Sha1 a) (Sha1 b) = slice_cmp nat_cmp a b
+id_cmp (Sha1 a) (Sha256 b) = Less
+id_cmp (Sha256 a) (Sha1 b) = Greater
+id_cmp (Sha256 a) (Sha256 b) = slice_cmp nat_cmp a b
 
 -- Two ids are of one form and have the same bytes.
 abbrev pub id_eq : ObjectId → ObjectId → Bool
