@@ -5,7 +5,7 @@ use Rattle.std.specs.Ordering.{nat_cmp}
 use Rattle.std.specs.Cmp.Lexicographic.{slice_cmp}
 use Rattle.std.specs.BTreeMap.{BTreeMap, get_by}
 use Rattle.std.specs.Global.{Vec}
-use Rattle.arch_base.specs.declared.ids.Id20.{Id20}
+use Rattle.arch_base.specs.declared.ids.ObjectId.{ObjectId}
 use Rattle.mail_reader.specs.Content.{content_id_of}
 use Rattle.arch_model.specs.Archives.{Entry, live, owner, blob_number}
 use Rattle.arch_model.specs.declared.choice.Meeting.{Meeting}
@@ -38,7 +38,7 @@ first_found None other = other
 first_found (Some x) other = Some x
 
 -- One id was put into the index, and its blob id, if it wasn't there already.
-pub record IndexPuts (old new : Index) (id : List ℕ) (blob : Id20) (message : Owner) : Type 0 where
+pub record IndexPuts (old new : Index) (id : List ℕ) (blob : ObjectId) (message : Owner) : Type 0 where
   pub owners : (q : List ℕ)
       → owner_in new.owners q ≡ (if bytes_eq q id then Some message else owner_in old.owners q)
   pub blobs : (q : List ℕ) → number_in new.blobs q ≡ first_found (number_in old.blobs q)
@@ -51,7 +51,7 @@ pub record IndexLoses (old new : Index) (id : List ℕ) : Type 0 where
   pub blobs : (q : List ℕ) → number_in new.blobs q ≡ number_in old.blobs q
 
 -- A blob id was removed if it was that of a number.
-pub record LosesIfOf (old new : Index) (blob : Id20) (number : ℕ) : Type 0 where
+pub record LosesIfOf (old new : Index) (blob : ObjectId) (number : ℕ) : Type 0 where
   pub its : number_in old.blobs blob.0 ≡ Some number → (q : List ℕ)
       → number_in new.blobs q ≡ (if bytes_eq q blob.0 then None else number_in old.blobs q)
   pub other : number_in old.blobs blob.0 ≢ Some number → (q : List ℕ)
@@ -63,7 +63,7 @@ pub record HasSame (old new : Index) : Type 0 where
   pub blobs : (q : List ℕ) → number_in new.blobs q ≡ number_in old.blobs q
 
 -- The index has the content from before a message with a new id and a new number was put into it.
-abbrev pub TakesBack : Index → Index → List ℕ → Id20 → ℕ → Type 0
+abbrev pub TakesBack : Index → Index → List ℕ → ObjectId → ℕ → Type 0
 TakesBack put new id blob number = (old : Index) (message : Owner) → IndexPuts old put id blob message
     → message.number ≡ number → owner_in old.owners id ≡ None
     → number_in old.blobs blob.0 ≢ Some number → HasSame old new

@@ -2,7 +2,8 @@
 use Rattle.std.specs.Prelude.{◌≡◌, ◌≤◌, ℕ, true, false, List, Option, Some, None, Ok, if◌then◌else◌}
 use Rattle.std.specs.Str.{bytes_eq}
 use Rattle.arch_base.specs.declared.config.Config.{Config}
-use Rattle.arch_base.specs.declared.ids.Id20.{Id20}
+use Rattle.arch_base.specs.declared.ids.ObjectId.{ObjectId}
+use Rattle.arch_base.specs.declared.ids.Form.TheVariants as form
 use Rattle.mail_reader.specs.StorageTexts.{IsStorageText}
 use Rattle.mail_reader.specs.Stored.{stored}
 use Rattle.mail_reader.specs.Ids.{own_id}
@@ -47,7 +48,7 @@ unless_same text kept number = if bytes_eq text kept then None else Some number
 
 -- A number is that of the first entry with a blob id, which is that of the text that the delivery would
 -- keep, and the text of that entry decides the delivery.
-pub record Compares (a : Archive) (bytes text : List ℕ) (blob : Id20) (number : ℕ) : Type 0 where
+pub record Compares (a : Archive) (bytes text : List ℕ) (blob : ObjectId) (number : ℕ) : Type 0 where
   pub first : blob_number a.entries blob.0 ≡ Some number
   pub known : form_known a (stored bytes) ≡ true
   pub decides : BlobsAgree a.entries → (kept : List ℕ) → blob_text a.entries blob.0 ≡ Some kept
@@ -70,7 +71,7 @@ JudgesOrCompares a bytes (Compare text ids number) = Compares a bytes text ids.b
 pub record MayCome (config : Config) (index : Index) (text : List ℕ) (ids : TextIds) : Type 0 where
   pub writable : config.mirror ≡ false
   pub storage : IsStorageText text
-  pub ids_are : ids ≡ text_ids_of text
+  pub ids_are : ids ≡ text_ids_of form.Sha1 text
   pub new_id : (id : List ℕ) → own_id text ≡ Some id → owner_in index.owners id ≡ None
 
 -- The text may be kept: it may come, and the archive has a number left.

@@ -1,6 +1,7 @@
 //! Decides what a delivery does, before anything is kept. Each kind of archive uses it.
 //! Allocates.
 ghost use Rattle.std.specs.Prelude.{◌≡◌, List, ℕ, Ok, IfOk, false, length};
+ghost use Rattle.arch_base.specs.declared.ids.Form.TheVariants as form;
 ghost use Rattle.mail_reader.specs.Content.{content_id_of};
 ghost use Rattle.mail_reader.specs.Stored.{stored as stored_of};
 ghost use Rattle.mail_commits.specs.Ids.{text_ids_of};
@@ -184,7 +185,7 @@ fn judge_new(config: &Config, index: &Index, next: u32, text: Bytes, content: [u
 
 /// Decides what the delivery of a text does, if only want of numbers can refuse it.
 fn judge_room(config: &Config, next: u32, text: Bytes, ids: TextIds) -> Verdict
-    requires ids { ids ≡ text_ids_of text }
+    requires ids { ids ≡ text_ids_of form.Sha1 text }
     ensures judged { (a : Archive) (bytes : List ℕ) → a.config ≡ config.now → a.next ≡ next
         → ((moment : ℕ) → delivered a bytes moment ≡ delivered_new a text moment)
         → Judges a bytes result }
@@ -212,7 +213,7 @@ pub fn compared(
     number: u32,
     kept: &[u8],
 ) -> Verdict
-    requires ids { ids ≡ text_ids_of text }
+    requires ids { ids ≡ text_ids_of form.Sha1 text }
     // The number of the text that was kept is the one of a collision.
     ensures judged { (a : Archive) (bytes : List ℕ) → a.config ≡ config.now → a.next ≡ next
         → ((moment : ℕ) → delivered a bytes moment

@@ -5,7 +5,7 @@ use Rattle.std.specs.Str.{bytes_eq}
 use Rattle.std.proofs.Common.{◌∙◌, sym, ap, arith}
 use Rattle.std.proofs.lemmas.Bool.Decides.{nat_tests}
 use Rattle.std.proofs.lemmas.Slice.Eq.{bytes_eq-Decides}
-use Rattle.arch_base.specs.declared.ids.Id20.{Id20}
+use Rattle.arch_base.specs.declared.ids.ObjectId.{ObjectId}
 use Rattle.git_objects.specs.Objects.{blob_id_of}
 use Rattle.mail_reader.specs.Ids.{own_id}
 use Rattle.arch_model.specs.Archives.{Entry, Archive, without_entries, owner, is_id, is_message, is_ended, live, in_epoch}
@@ -18,6 +18,7 @@ use Rattle.git_objects.specs.declared.entry_kind.EntryKind.{EntryKind}
 use Rattle.git_objects.specs.declared.entry_kind.EntryKind.TheVariants.{Message, Deletion}
 use Rattle.mail_reader.specs.StorageTexts.{IsStorageText}
 use Rattle.arch_base.specs.Moments.{last_moment}
+use Rattle.arch_base.specs.declared.ids.Form.TheVariants as form
 use Rattle.arch_model.specs.declared.command.Command.TheVariants.{Deliver, Remove, Purge, Edit}
 use Rattle.arch_model.proofs.Deliveries.{Comes, Refused, Accepted, comes, Ends, Still, Ended, ends}
 use Rattle.arch_model.proofs.ValidArchives.{all_weaker, not_before, Agrees, archive_grows, archive_ends}
@@ -63,10 +64,10 @@ same_test false t clash is = absurd (cc)
 pub agrees-alone : (es : List Entry) (text : List ℕ) → collision es text ≡ None → Agrees text es
 agrees-alone [] text none = tt
 agrees-alone (e ∷ es) text none =
-    let blob = (blob_id_of text).0 in
-    let other = (blob_id_of e.text).0 in
+    let blob = (blob_id_of form.Sha1 text).0 in
+    let other = (blob_id_of form.Sha1 e.text).0 in
     let both = number_free e.number (collision es text) (bytes_eq blob other && not (bytes_eq text e.text)) none in
-    (λ same. (bytes_eq-Decides text e.text).0 (same_test (bytes_eq blob other) (bytes_eq text e.text) both.0 ((bytes_eq-Decides blob other).1 (ap (λ (i : Id20). i.0) same))), agrees-alone es text both.1)
+    (λ same. (bytes_eq-Decides text e.text).0 (same_test (bytes_eq blob other) (bytes_eq text e.text) both.0 ((bytes_eq-Decides blob other).1 (ap (λ (i : ObjectId). i.0) same))), agrees-alone es text both.1)
 
 -- The last epoch is one of the 64.
 last_small : (es : List Entry) → AllByRecursion IsEntry es → last_epoch es ≤ 63

@@ -5,7 +5,8 @@ use Rattle.std.proofs.lemmas.Bool.Decides.{nat_tests}
 use Rattle.mail_reader.specs.Stored.{stored}
 use Rattle.mail_reader.specs.declared.storing.StoredRefusal.{StoredRefusal}
 use Rattle.mail_reader.specs.declared.storing.StoredRefusal.TheVariants as stored_refusal
-use Rattle.arch_base.specs.declared.ids.Id20.{Id20}
+use Rattle.arch_base.specs.declared.ids.ObjectId.{ObjectId}
+use Rattle.arch_base.specs.declared.ids.Form.TheVariants as form
 use Rattle.git_objects.specs.Objects.{blob_id_of}
 use Rattle.arch_model.specs.Archives.{Entry, Archive, live, text_of, with_entry, with_deletion, message}
 use Rattle.arch_model.specs.Candidates.{choice_of}
@@ -19,11 +20,11 @@ use Rattle.arch_model.proofs.LiveEntries.{without, live-message, live-deletion, 
 
 -- The result of a delivery: a refusal that leaves the archive unchanged, or one more entry.
 pub data Comes (a : Archive) (bytes : List ℕ) (moment : ℕ) : Done → Type 0 where
-  Refused : (answer : Answer) → ((number : ℕ) (id : Id20) → answer ≡ named.Ok number id → ⊥) → Comes a bytes moment (refused a answer)
-  Accepted : (text kept : List ℕ) → stored bytes ≡ Ok text → choice_of a text ≡ Take kept → collision a.entries kept ≡ None → nat_lt a.config.max a.next ≡ false → Comes a bytes moment (record { archive = with_entry a (new_epoch a) kept moment; answer = named.Ok a.next (blob_id_of kept) })
+  Refused : (answer : Answer) → ((number : ℕ) (id : ObjectId) → answer ≡ named.Ok number id → ⊥) → Comes a bytes moment (refused a answer)
+  Accepted : (text kept : List ℕ) → stored bytes ≡ Ok text → choice_of a text ≡ Take kept → collision a.entries kept ≡ None → nat_lt a.config.max a.next ≡ false → Comes a bytes moment (record { archive = with_entry a (new_epoch a) kept moment; answer = named.Ok a.next (blob_id_of form.Sha1 kept) })
 
 comes_new : (a : Archive) (bytes text kept : List ℕ) (moment : ℕ) (t : Bool) → stored bytes ≡ Ok text → choice_of a text ≡ Take kept → collision a.entries kept ≡ None → nat_lt a.config.max a.next ≡ t
-    → Comes a bytes moment (if t then refused a (named.Full a.config.max) else record { archive = with_entry a (new_epoch a) kept moment; answer = named.Ok a.next (blob_id_of kept) })
+    → Comes a bytes moment (if t then refused a (named.Full a.config.max) else record { archive = with_entry a (new_epoch a) kept moment; answer = named.Ok a.next (blob_id_of form.Sha1 kept) })
 comes_new a bytes text kept moment true is takes alone room = Refused (named.Full a.config.max) (λ number id e. cc e)
 comes_new a bytes text kept moment false is takes alone room = Accepted text kept is takes alone room
 
@@ -82,8 +83,8 @@ text_of-last (x ∷ es) e none = last_step x e es (x.number == e.number) refl (t
 
 -- The result of a removal: a refusal that leaves the archive unchanged, or one more deletion.
 pub data Ends (a : Archive) (number moment : ℕ) : Done → Type 0 where
-  Still : (answer : Answer) → ((id : Id20) → answer ≡ named.Ok number id → ⊥) → Ends a number moment (refused a answer)
-  Ended : (text : List ℕ) → text_of (live a.entries) number ≡ Some text → Ends a number moment (record { archive = with_deletion a number (new_epoch a) text moment; answer = named.Ok number (blob_id_of text) })
+  Still : (answer : Answer) → ((id : ObjectId) → answer ≡ named.Ok number id → ⊥) → Ends a number moment (refused a answer)
+  Ended : (text : List ℕ) → text_of (live a.entries) number ≡ Some text → Ends a number moment (record { archive = with_deletion a number (new_epoch a) text moment; answer = named.Ok number (blob_id_of form.Sha1 text) })
 
 ends_text : (a : Archive) (number moment : ℕ) (found : Option (List ℕ)) → text_of (live a.entries) number ≡ found → Ends a number moment (removed_text a number moment found)
 ends_text a number moment None is = Still (named.NotLive number) (λ id e. cc e)
@@ -123,7 +124,7 @@ pub ended_numbers : (a : Archive) (number moment : ℕ) (d : Done) → Ends a nu
 ended_numbers a number moment d (Still answer other) some h = (some, h)
 ended_numbers a number moment d (Ended text is) some h = (some, λ n shown found. h n shown (shown_before a number n shown (n == number) refl (subst (λ (l : List Entry). text_of l n ≡ Some shown) (live-deletion a.entries number (new_epoch a) text moment) found)))
 
-view_by : (a : Archive) (number moment : ℕ) (d : Done) → Ends a number moment d → ((n : ℕ) → n ≢ number → text_of (live d.archive.entries) n ≡ text_of (live a.entries) n) × ((id : Id20) → d.answer ≡ named.Ok number id → text_of (live d.archive.entries) number ≡ None)
+view_by : (a : Archive) (number moment : ℕ) (d : Done) → Ends a number moment d → ((n : ℕ) → n ≢ number → text_of (live d.archive.entries) n ≡ text_of (live a.entries) n) × ((id : ObjectId) → d.answer ≡ named.Ok number id → text_of (live d.archive.entries) number ≡ None)
 view_by a number moment d (Still answer other) = (λ n apart. refl, λ id e. absurd (other id e))
 view_by a number moment d (Ended text is) =
     let now = live-deletion a.entries number (new_epoch a) text moment in
@@ -133,7 +134,7 @@ view_by a number moment d (Ended text is) =
 pub takes-from-view : TakesFromView
 takes-from-view a number moment = view_by a number moment (removed a number moment) (ends a number moment)
 
-shows_by : (a : Archive) (bytes : List ℕ) (moment number : ℕ) (id : Id20) (d : Done) → Comes a bytes moment d → NumbersInRange a → d.answer ≡ named.Ok number id
+shows_by : (a : Archive) (bytes : List ℕ) (moment number : ℕ) (id : ObjectId) (d : Done) → Comes a bytes moment d → NumbersInRange a → d.answer ≡ named.Ok number id
     → (text : List ℕ) × (kept : List ℕ) × (stored bytes ≡ Ok text) × (choice_of a text ≡ Take kept) × (text_of (live d.archive.entries) number ≡ Some kept)
 shows_by a bytes moment number id d (Refused answer other) h e = absurd (other number id e)
 shows_by a bytes moment number id d (Accepted form kept is takes alone room) h e =

@@ -1,7 +1,8 @@
 -- What a purge and an edit give, and that live numbers stay below the next one over all commands.
 use Rattle.std.proofs.Common.{◌≡◌, ◌<◌, ◌≤◌, ℕ, Bool, true, false, List, Option, Some, None, refl, sym, ap, ◌∙◌, if◌then◌else◌}
 use Rattle.mail_reader.specs.Stored.{stored}
-use Rattle.arch_base.specs.declared.ids.Id20.{Id20}
+use Rattle.arch_base.specs.declared.ids.ObjectId.{ObjectId}
+use Rattle.arch_base.specs.declared.ids.Form.TheVariants as form
 use Rattle.git_objects.specs.Objects.{blob_id_of}
 use Rattle.arch_model.specs.Archives.{Entry, Archive, live, messages, text_of, without_entries}
 use Rattle.arch_model.specs.Delivery.{Done, refused, delivered, removed, purged_text, purged, is_accepted, unless_refused, is_form, edited_text, edited}
@@ -17,8 +18,8 @@ use Rattle.arch_model.proofs.Purging.{live_climbs, climbs_above, valid_without}
 
 -- The result of a purge: a refusal that leaves the archive unchanged, or the archive without a text.
 pub data Purges (a : Archive) (number : ℕ) : Done → Type 0 where
-  Spared : (answer : Answer) → ((n : ℕ) (id : Id20) → answer ≡ named.Ok n id → ⊥) → Purges a number (refused a answer)
-  Dropped : (text : List ℕ) → text_of (messages a.entries) number ≡ Some text → Purges a number (record { archive = without_entries a text; answer = named.Ok number (blob_id_of text) })
+  Spared : (answer : Answer) → ((n : ℕ) (id : ObjectId) → answer ≡ named.Ok n id → ⊥) → Purges a number (refused a answer)
+  Dropped : (text : List ℕ) → text_of (messages a.entries) number ≡ Some text → Purges a number (record { archive = without_entries a text; answer = named.Ok number (blob_id_of form.Sha1 text) })
 
 purges_text : (a : Archive) (number : ℕ) (found : Option (List ℕ)) → text_of (messages a.entries) number ≡ found → Purges a number (purged_text a number found)
 purges_text a number None is = Spared (named.NoText number) (λ n id e. cc e)
@@ -34,7 +35,7 @@ purges a number = purges_mirror a number a.config.mirror
 -- The result of an edit: a refusal that leaves the archive unchanged, or the delivery on the archive
 -- without a text, which accepts.
 pub data Edits (a : Archive) (number : ℕ) (bytes : List ℕ) (moment : ℕ) : Done → Type 0 where
-  Unedited : (answer : Answer) → ((n : ℕ) (id : Id20) → answer ≡ named.Ok n id → ⊥) → Edits a number bytes moment (refused a answer)
+  Unedited : (answer : Answer) → ((n : ℕ) (id : ObjectId) → answer ≡ named.Ok n id → ⊥) → Edits a number bytes moment (refused a answer)
   Redelivered : (text : List ℕ) → text_of (live a.entries) number ≡ Some text → is_accepted (delivered (without_entries a text) bytes moment).answer ≡ true → Edits a number bytes moment (delivered (without_entries a text) bytes moment)
 
 edits_unless : (a : Archive) (number : ℕ) (bytes text : List ℕ) (moment : ℕ) (t : Bool) → is_accepted (delivered (without_entries a text) bytes moment).answer ≡ t → text_of (live a.entries) number ≡ Some text
@@ -80,14 +81,14 @@ stays-numbered a (Purge number) moment valid = purged_numbers a number (purged a
 stays-numbered a (Edit number bytes) moment valid = edited_numbers a number bytes.now moment (edited a number bytes.now moment) (edits a number bytes.now moment) valid
 
 -- A purge that is answered Ok left the archive without the text of its number.
-pub purged_is : (a : Archive) (number n : ℕ) (id : Id20) → (purged a number).answer ≡ named.Ok n id → (text : List ℕ) × (text_of (messages a.entries) number ≡ Some text) × ((purged a number).archive ≡ without_entries a text)
+pub purged_is : (a : Archive) (number n : ℕ) (id : ObjectId) → (purged a number).answer ≡ named.Ok n id → (text : List ℕ) × (text_of (messages a.entries) number ≡ Some text) × ((purged a number).archive ≡ without_entries a text)
 purged_is a number n id is = by (purged a number) (purges a number) is where
   by : (d : Done) → Purges a number d → d.answer ≡ named.Ok n id → (text : List ℕ) × (text_of (messages a.entries) number ≡ Some text) × (d.archive ≡ without_entries a text)
   by d (Spared answer other) is = absurd (other n id is)
   by d (Dropped text found) is = (text, found, refl)
 
 -- An edit that is answered Ok is the delivery on the archive without the text of its number.
-pub edited_is : (a : Archive) (number : ℕ) (bytes : List ℕ) (moment n : ℕ) (id : Id20) → (edited a number bytes moment).answer ≡ named.Ok n id → (text : List ℕ) × (text_of (live a.entries) number ≡ Some text) × (edited a number bytes moment ≡ delivered (without_entries a text) bytes moment)
+pub edited_is : (a : Archive) (number : ℕ) (bytes : List ℕ) (moment n : ℕ) (id : ObjectId) → (edited a number bytes moment).answer ≡ named.Ok n id → (text : List ℕ) × (text_of (live a.entries) number ≡ Some text) × (edited a number bytes moment ≡ delivered (without_entries a text) bytes moment)
 edited_is a number bytes moment n id is = by (edited a number bytes moment) (edits a number bytes moment) is where
   by : (d : Done) → Edits a number bytes moment d → d.answer ≡ named.Ok n id → (text : List ℕ) × (text_of (live a.entries) number ≡ Some text) × (d ≡ delivered (without_entries a text) bytes moment)
   by d (Unedited answer other) is = absurd (other n id is)

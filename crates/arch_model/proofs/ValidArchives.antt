@@ -5,6 +5,7 @@ use Rattle.std.proofs.Common.{arith, inl, inr, sym, ap, subst, ◌∙◌}
 use Rattle.git_objects.specs.declared.entry_kind.EntryKind.{EntryKind}
 use Rattle.git_objects.specs.declared.entry_kind.EntryKind.TheVariants.{Message, Deletion}
 use Rattle.std.proofs.lemmas.Bool.Decides.{nat_tests}
+use Rattle.arch_base.specs.declared.ids.Form.TheVariants as form
 use Rattle.git_objects.specs.Objects.{blob_id_of}
 use Rattle.mail_reader.specs.Ids.{own_id}
 use Rattle.arch_model.specs.Archives.{Entry, Archive, message, deletion, live, text_of, with_entry, with_deletion}
@@ -54,21 +55,21 @@ ids_more (e ∷ es) new differ free = (all_after (λ (f : Entry). own_id f.text 
 
 -- Each entry with the blob id of a text has the text.
 abbrev pub Agrees : List ℕ → List Entry → Type 0
-Agrees text es = AllByRecursion (λ (e : Entry). blob_id_of text ≡ blob_id_of e.text → text ≡ e.text) es
+Agrees text es = AllByRecursion (λ (e : Entry). blob_id_of form.Sha1 text ≡ blob_id_of form.Sha1 e.text → text ≡ e.text) es
 
 -- Each blob id still has one text.
 pub blobs_more : (es : List Entry) (new : Entry) → BlobsAgree es → Agrees new.text es → BlobsAgree (es ++ new ∷ [])
 blobs_more [] new agree same = (tt, tt)
-blobs_more (e ∷ es) new agree same = (all_after (λ (f : Entry). blob_id_of f.text ≡ blob_id_of e.text → f.text ≡ e.text) es new agree.0 same.0, blobs_more es new agree.1 same.1)
+blobs_more (e ∷ es) new agree same = (all_after (λ (f : Entry). blob_id_of form.Sha1 f.text ≡ blob_id_of form.Sha1 e.text → f.text ≡ e.text) es new agree.0 same.0, blobs_more es new agree.1 same.1)
 
 -- A text that is there agrees with all.
 pub agrees-has : (es : List Entry) (text : List ℕ) → BlobsAgree es → HasText text es → Agrees text es
 agrees-has [] text agree has = tt
 agrees-has (e ∷ es) text agree (inl is) = (
   λ same. sym is,
-  all_weaker (λ (f : Entry). blob_id_of f.text ≡ blob_id_of e.text → f.text ≡ e.text) (λ (f : Entry). blob_id_of text ≡ blob_id_of f.text → text ≡ f.text) es (λ f h same. sym is ∙ sym (h (sym same ∙ ap blob_id_of (sym is)))) agree.0,
+  all_weaker (λ (f : Entry). blob_id_of form.Sha1 f.text ≡ blob_id_of form.Sha1 e.text → f.text ≡ e.text) (λ (f : Entry). blob_id_of form.Sha1 text ≡ blob_id_of form.Sha1 f.text → text ≡ f.text) es (λ f h same. sym is ∙ sym (h (sym same ∙ ap (blob_id_of form.Sha1) (sym is)))) agree.0,
 )
-agrees-has (e ∷ es) text agree (inr more) = (all-text (λ (t : List ℕ). blob_id_of t ≡ blob_id_of e.text → t ≡ e.text) es text agree.0 more, agrees-has es text agree.1 more)
+agrees-has (e ∷ es) text agree (inr more) = (all-text (λ (t : List ℕ). blob_id_of form.Sha1 t ≡ blob_id_of form.Sha1 e.text → t ≡ e.text) es text agree.0 more, agrees-has es text agree.1 more)
 
 -- An archive stays valid with one more message that has its next number, an epoch not before any
 -- other, an own id that no live entry has, and the text of each entry with its blob id.

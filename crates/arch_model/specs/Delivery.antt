@@ -1,6 +1,7 @@
 -- What the commands do to an archive, and their answers.
 use Rattle.std.specs.Prelude.{◌≡◌, ◌+◌, ℕ, Bool, true, false, not, ◌&&◌, ◌||◌, ◌==◌, nat_lt, List, [], ◌∷◌, ◌++◌, length, codes, decimal, Option, Some, None, Result, Ok, Err, if◌then◌else◌}
 use Rattle.std.specs.Str.{bytes_eq}
+use Rattle.arch_base.specs.declared.ids.Form.TheVariants as form
 use Rattle.hex.specs.Hex.{encode_lower}
 use Rattle.mail_reader.specs.Stored.{stored}
 use Rattle.mail_reader.specs.declared.storing.StoredRefusal.{StoredRefusal}
@@ -44,7 +45,7 @@ new_epoch a =
 
 -- The entry has the blob id of the text, and another text.
 abbrev pub clashes : List ℕ → Entry → Bool
-clashes text e = bytes_eq (blob_id_of text).0 (blob_id_of e.text).0 && not (bytes_eq text e.text)
+clashes text e = bytes_eq (blob_id_of form.Sha1 text).0 (blob_id_of form.Sha1 e.text).0 && not (bytes_eq text e.text)
 
 -- The number of the first entry with the blob id of the text and another text, if there is one. It
 -- may be live or not, and is the least such number, since a deletion comes after its message.
@@ -67,7 +68,7 @@ delivered_new a text moment =
     if nat_lt a.config.max a.next then refused a (answer.Full a.config.max)
     else record {
       archive = with_entry a (new_epoch a) text moment;
-      answer = answer.Ok a.next (blob_id_of text);
+      answer = answer.Ok a.next (blob_id_of form.Sha1 text);
     }
 
 -- The text is delivered, unless another text has its blob id.
@@ -97,7 +98,7 @@ abbrev pub removed_text : Archive → ℕ → ℕ → Option (List ℕ) → Done
 removed_text a number moment None = refused a (answer.NotLive number)
 removed_text a number moment (Some text) = record {
   archive = with_deletion a number (new_epoch a) text moment;
-  answer = answer.Ok number (blob_id_of text);
+  answer = answer.Ok number (blob_id_of form.Sha1 text);
 }
 
 -- The removal of a number at a moment. A mirror takes none. A removal writes one more entry, and
@@ -112,7 +113,7 @@ abbrev pub purged_text : Archive → ℕ → Option (List ℕ) → Done
 purged_text a number None = refused a (answer.NoText number)
 purged_text a number (Some text) = record {
   archive = without_entries a text;
-  answer = answer.Ok number (blob_id_of text);
+  answer = answer.Ok number (blob_id_of form.Sha1 text);
 }
 
 -- The purge of a number. A mirror takes none. It drops each entry with the text of the number's

@@ -2,6 +2,7 @@
 use Rattle.std.specs.Prelude.{◌≡◌, ◌⊎◌, ◌≤◌, ℕ, Bool, true, false, List, [], ◌∷◌, Option, Some, None, is_some, Result, Ok, Err}
 use Rattle.std.specs.List.{Contains}
 use Rattle.arch_base.specs.Counts.{Rose}
+use Rattle.arch_base.specs.declared.ids.Form.TheVariants as form
 use Rattle.mail_reader.specs.Stored.{stored}
 use Rattle.mail_reader.specs.declared.storing.StoredRefusal.{StoredRefusal}
 use Rattle.git_objects.specs.Objects.{blob_id_of}
@@ -247,7 +248,7 @@ opening_answer opening.NoMemory = answer.NoMemory
 
 -- An entry has the blob id of a text that a choice keeps.
 abbrev pub keeps_known : List Entry → Choice → Bool
-keeps_known entries (Take text) = is_some (blob_number entries (blob_id_of text).0)
+keeps_known entries (Take text) = is_some (blob_number entries (blob_id_of form.Sha1 text).0)
 keeps_known entries (Repeat number) = false
 
 -- An entry has the blob id of the text that a delivery of this form would keep.

@@ -1,6 +1,6 @@
 -- The laws of commands.
 use Rattle.std.specs.Prelude.{◌≡◌, ◌≢◌, ◌<◌, ◌≤◌, ◌^◌, ℕ, false, zero, suc, List, Option, Some, None, IsSome, Result, Ok, Err, length}
-use Rattle.arch_base.specs.declared.ids.Id20.{Id20}
+use Rattle.arch_base.specs.declared.ids.ObjectId.{ObjectId}
 use Rattle.arch_base.specs.Names.{IsArchiveName}
 use Rattle.mail_reader.specs.StorageTexts.{IsStorageText}
 use Rattle.mail_reader.specs.Stored.{stored}
@@ -41,7 +41,7 @@ abbrev pub TakesFromView : Type 0
 TakesFromView = (a : Archive) (number moment : ℕ)
     → ((n : ℕ) → n ≢ number
     → text_of (live (removed a number moment).archive.entries) n ≡ text_of (live a.entries) n)
-    × ((id : Id20) → (removed a number moment).answer ≡ answer.Ok number id
+    × ((id : ObjectId) → (removed a number moment).answer ≡ answer.Ok number id
     → text_of (live (removed a number moment).archive.entries) number ≡ None)
 
 -- After a command on a valid archive each live number is at least 1 and below the next one.
@@ -53,7 +53,7 @@ StaysNumbered = (a : Archive) (command : Command) (moment : ℕ) → IsArchive a
 -- edit leaves the archive unchanged.
 abbrev pub EditsWhole : Type 0
 EditsWhole = (a : Archive) (number moment : ℕ) (bytes : List ℕ)
-    → ((n : ℕ) (id : Id20) → (edited a number bytes moment).answer ≡ answer.Ok n id →
+    → ((n : ℕ) (id : ObjectId) → (edited a number bytes moment).answer ≡ answer.Ok n id →
     (text : List ℕ) × (text_of (live a.entries) number ≡ Some text)
     × (edited a number bytes moment ≡ delivered (without_entries a text) bytes moment))
     × (is_accepted (edited a number bytes moment).answer ≡ false
@@ -83,7 +83,7 @@ CommandFollows = (a : Archive) (command : Command) (moment : ℕ)
 -- front or not.
 abbrev pub ShowsDelivered : Type 0
 ShowsDelivered =
-    (a : Archive) (bytes : List ℕ) (moment number : ℕ) (id : Id20) → NumbersInRange a
+    (a : Archive) (bytes : List ℕ) (moment number : ℕ) (id : ObjectId) → NumbersInRange a
     → (delivered a bytes moment).answer ≡ answer.Ok number id →
     (text : List ℕ) × (kept : List ℕ) × (stored bytes ≡ Ok text) × (choice_of a text ≡ Take kept)
     × (text_of (live (delivered a bytes moment).archive.entries) number ≡ Some kept)

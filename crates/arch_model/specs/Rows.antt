@@ -1,5 +1,6 @@
 -- The row of a mail: what a list of mails says of it.
 use Rattle.std.specs.Prelude.{ℕ, List, length}
+use Rattle.arch_base.specs.declared.ids.Form.TheVariants as form
 use Rattle.git_objects.specs.Objects.{blob_id_of}
 use Rattle.mail_commits.specs.Commits.{written_at}
 use Rattle.mail_commits.specs.Facts.{from_fact, subject_fact, date_fact}
@@ -15,7 +16,7 @@ use Rattle.mail_forms.specs.declared.row.Row.{Row}
 unfoldable pub row_of : ℕ → List ℕ → ℕ → Row
 row_of number text arrived = record {
   number = number;
-  blob = blob_id_of text;
+  blob = blob_id_of form.Sha1 text;
   id = id_fact text;
   refs = refs_of text;
   subject = subject_fact text;

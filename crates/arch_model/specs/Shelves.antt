@@ -3,6 +3,7 @@ use Rattle.std.specs.Prelude.{◌≡◌, ◌≢◌, ◌+◌, ◌<◌, ◌≤◌,
 use Rattle.std.specs.List.{filter}
 use Rattle.std.specs.Str.{bytes_eq}
 use Rattle.arch_base.specs.Counts.{Rose}
+use Rattle.arch_base.specs.declared.ids.Form.TheVariants as form
 use Rattle.git_objects.specs.Objects.{blob_id_of}
 use Rattle.mail_commits.specs.Entries.{commit_id}
 use Rattle.arch_model.specs.Archives.{Entry, Archive, text_of, in_epoch}
@@ -32,9 +33,9 @@ line_after before e = record {
   number = e.number;
   epoch = e.epoch;
   secs = e.moment;
-  blob = blob_id_of e.text;
+  blob = blob_id_of form.Sha1 e.text;
   size = length e.text;
-  commit = commit_id e.kind e.text e.moment (last_commit None (in_epoch before e.epoch));
+  commit = commit_id form.Sha1 e.kind e.text e.moment (last_commit None (in_epoch before e.epoch));
 }
 
 -- Entries after others, without their texts.
@@ -51,7 +52,7 @@ line_at entries index = slice_get (lines_after [] entries) index
 abbrev pub blob_text : List Entry → List ℕ → Option (List ℕ)
 blob_text [] blob = None
 blob_text (e ∷ es) blob =
-    if bytes_eq blob (blob_id_of e.text).0 then Some e.text else blob_text es blob
+    if bytes_eq blob (blob_id_of form.Sha1 e.text).0 then Some e.text else blob_text es blob
 
 -- The result of reading a text by its blob id: the text is appended, or no entry has the blob id. No
 -- damage is found.

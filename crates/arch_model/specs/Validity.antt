@@ -4,6 +4,7 @@ use Rattle.std.specs.List.{AllByRecursion}
 use Rattle.arch_base.specs.Configs.{IsConfig}
 use Rattle.arch_base.specs.Moments.{last_moment}
 use Rattle.arch_base.specs.Names.{IsArchiveName}
+use Rattle.arch_base.specs.declared.ids.Form.TheVariants as form
 use Rattle.mail_reader.specs.StorageTexts.{IsStorageText}
 use Rattle.mail_reader.specs.Ids.{own_id}
 use Rattle.git_objects.specs.Objects.{blob_id_of}
@@ -54,7 +55,7 @@ IdsDiffer (e ∷ es) = AllByRecursion (λ (f : Entry). own_id f.text ≢ own_id 
 -- Entries with the same blob id have the same text.
 abbrev pub BlobsAgree : List Entry → Type 0
 BlobsAgree [] = Unit {0}
-BlobsAgree (e ∷ es) = AllByRecursion (λ (f : Entry). blob_id_of f.text ≡ blob_id_of e.text
+BlobsAgree (e ∷ es) = AllByRecursion (λ (f : Entry). blob_id_of form.Sha1 f.text ≡ blob_id_of form.Sha1 e.text
     → f.text ≡ e.text) es × BlobsAgree es
 
 -- The ids of the entries that are live after an entry differ.

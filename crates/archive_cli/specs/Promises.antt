@@ -1,6 +1,6 @@
 -- Six promises of an archive, as laws over what runs of the program do: serving and runs in order.
 use Rattle.std.specs.Prelude.{◌≡◌, ◌+◌, ◌<◌, ◌^◌, ℕ, true, List, [], ◌∷◌, ◌++◌, take, Option, Some, None}
-use Rattle.arch_base.specs.declared.ids.Id20.{Id20}
+use Rattle.arch_base.specs.declared.ids.ObjectId.{ObjectId}
 use Rattle.disk_model.specs.declared.disk.Disk.{Ghosts as Disk}
 use Rattle.disk_model.specs.Disk.{Content, WhereTold, BothTold}
 use Rattle.disk_model.specs.Synced.{IsSettled}
@@ -96,7 +96,7 @@ module _ {D : Type 0} (g : Disk D) where
   -- ready and held an archive, so that nothing was in doubt, as a session's engine is at a request; and
   -- of a root whose sequence is below 2^64 - 1.
   abbrev pub PurgeLeavesNothing : Type 0
-  PurgeLeavesNothing = (words : Departure → Said SessionAtWork LastKnown) (number moment n : ℕ) (id : Id20)
+  PurgeLeavesNothing = (words : Departure → Said SessionAtWork LastKnown) (number moment n : ℕ) (id : ObjectId)
       (a : Archive) (old : Owning D) (i : ConnectionState) (held : Option SessionAtWork)
       (new : Owning D) (t : LastKnown) (j : ConnectionState)
       → HoldsArchive g.content old a → is_ready old ≡ true → old.view.root.sequence + 1 < 2 ^ 64

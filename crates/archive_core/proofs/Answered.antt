@@ -1,5 +1,6 @@
 -- A delivery is never answered that a number isn't live.
 use Rattle.std.specs.Prelude.{◌≡◌, ℕ, Bool, true, false, nat_lt, List, Option, Some, None, Result, Ok, Err, if◌then◌else◌}
+use Rattle.arch_base.specs.declared.ids.Form.TheVariants as form
 use Rattle.git_objects.specs.Objects.{blob_id_of}
 use Rattle.mail_reader.specs.Stored.{stored}
 use Rattle.mail_reader.specs.declared.storing.StoredRefusal.{StoredRefusal}
@@ -11,7 +12,7 @@ use Rattle.arch_model.specs.declared.answer.Answer.TheVariants as answer
 use Rattle.arch_model.specs.declared.choice.Choice.{Choice}
 use Rattle.arch_model.specs.declared.choice.Choice.TheVariants as choice
 
-new_lives : (t : Bool) (a : Archive) (text : List ℕ) (moment n : ℕ) → (if t then refused a (answer.Full a.config.max) else record { archive = with_entry a (new_epoch a) text moment; answer = answer.Ok a.next (blob_id_of text) }).answer ≡ answer.NotLive n → ⊥
+new_lives : (t : Bool) (a : Archive) (text : List ℕ) (moment n : ℕ) → (if t then refused a (answer.Full a.config.max) else record { archive = with_entry a (new_epoch a) text moment; answer = answer.Ok a.next (blob_id_of form.Sha1 text) }).answer ≡ answer.NotLive n → ⊥
 new_lives true a text moment n is = cc
 new_lives false a text moment n is = cc
 

@@ -4,7 +4,8 @@ use Rattle.std.specs.Str.{bytes_eq}
 use Rattle.std.proofs.Common.{◌∙◌, sym, ap, subst}
 use Rattle.std.proofs.lemmas.Slice.Eq.{bytes_eq-Decides}
 use Rattle.std.proofs.lemmas.Option.{same_Some}
-use Rattle.arch_base.specs.declared.ids.Id20.{Id20}
+use Rattle.arch_base.specs.declared.ids.ObjectId.{ObjectId}
+use Rattle.arch_base.specs.declared.ids.Form.TheVariants as form
 use Rattle.git_objects.specs.Objects.{blob_id_of}
 use Rattle.arch_model.specs.Archives.{Entry, Archive, is_message, messages, text_of, blob_number}
 use Rattle.arch_model.specs.Shelves.{blob_text, GivesBlobIn}
@@ -19,21 +20,21 @@ use Rattle.archive_core.specs.Numbers.{IsMessageAt, HasBlobAt, IsBlobIndex}
 use Rattle.archive_core.proofs.Stored.{kept-at, message-at}
 
 -- The text of a blob id has it.
-has_step : (t : Bool) (e : Entry) (es : List Entry) (blob text : List ℕ) → bytes_eq blob (blob_id_of e.text).0 ≡ t → cond t (Some e.text) (blob_text es blob) ≡ Some text
-    → (blob_text es blob ≡ Some text → bytes_eq blob (blob_id_of text).0 ≡ true) → bytes_eq blob (blob_id_of text).0 ≡ true
-has_step true e es blob text test is rest = subst (λ (t : List ℕ). bytes_eq blob (blob_id_of t).0 ≡ true) (same_Some e.text text is) test
+has_step : (t : Bool) (e : Entry) (es : List Entry) (blob text : List ℕ) → bytes_eq blob (blob_id_of form.Sha1 e.text).0 ≡ t → cond t (Some e.text) (blob_text es blob) ≡ Some text
+    → (blob_text es blob ≡ Some text → bytes_eq blob (blob_id_of form.Sha1 text).0 ≡ true) → bytes_eq blob (blob_id_of form.Sha1 text).0 ≡ true
+has_step true e es blob text test is rest = subst (λ (t : List ℕ). bytes_eq blob (blob_id_of form.Sha1 t).0 ≡ true) (same_Some e.text text is) test
 has_step false e es blob text test is rest = rest is
 
-has_it : (es : List Entry) (blob text : List ℕ) → blob_text es blob ≡ Some text → bytes_eq blob (blob_id_of text).0 ≡ true
+has_it : (es : List Entry) (blob text : List ℕ) → blob_text es blob ≡ Some text → bytes_eq blob (blob_id_of form.Sha1 text).0 ≡ true
 has_it [] blob text is = absurd (cc)
-has_it (e ∷ es) blob text is = has_step (bytes_eq blob (blob_id_of e.text).0) e es blob text refl is (λ more. has_it es blob text more)
+has_it (e ∷ es) blob text is = has_step (bytes_eq blob (blob_id_of form.Sha1 e.text).0) e es blob text refl is (λ more. has_it es blob text more)
 
 -- The entry of the archive that is the message of a number is the one of that number's text.
 pub record MessageOf (v : StoreState) (a : Archive) (n i : ℕ) (s : StoredEntry) : Type 0 where
   pub entry : Entry
   pub there : slice_get a.entries i ≡ Some entry
   pub once : text_of (messages a.entries) n ≡ Some entry.text
-  pub blob : s.seen.blob ≡ blob_id_of entry.text
+  pub blob : s.seen.blob ≡ blob_id_of form.Sha1 entry.text
 
 pub message-of : (v : StoreState) (a : Archive) (n i : ℕ) → KeepsArchive v a → (at : IsMessageAt v.entries n i) → MessageOf v a n i at.entry
 message-of v a n i keeps at =
@@ -55,26 +56,26 @@ blob-index v a blob n i keeps is at =
     sym (blob_found-text 1 a.entries blob n keeps.valid.ends (rises-from 1 0 a.entries keeps.valid.order) (sym is)) ∙ own.once ∙ sym (ap text_if own.there)
 
 -- And so it has the blob id.
-pub blob-there : (v : StoreState) (a : Archive) (id : Id20) (n i : ℕ) → KeepsArchive v a → Some n ≡ blob_number a.entries id.0 → IsMessageAt v.entries n i → HasBlobAt v.entries id i
+pub blob-there : (v : StoreState) (a : Archive) (id : ObjectId) (n i : ℕ) → KeepsArchive v a → Some n ≡ blob_number a.entries id.0 → IsMessageAt v.entries n i → HasBlobAt v.entries id i
 blob-there v a id n i keeps is at =
     let own = message-of v a n i keeps at in
     let text : blob_text a.entries id.0 ≡ Some own.entry.text = blob-index v a id.0 n i keeps is at ∙ ap text_if own.there in
-    let same : id.0 ≡ (blob_id_of own.entry.text).0 = (bytes_eq-Decides id.0 (blob_id_of own.entry.text).0).0 (has_it a.entries id.0 own.entry.text text) in
+    let same : id.0 ≡ (blob_id_of form.Sha1 own.entry.text).0 = (bytes_eq-Decides id.0 (blob_id_of form.Sha1 own.entry.text).0).0 (has_it a.entries id.0 own.entry.text text) in
     (at.entry, at.there, own.blob ∙ ap (λ (bytes : List ℕ). record { 0 = bytes }) (sym same))
 
 -- No entry has the blob id.
-pub blob-nowhere : (a : Archive) (id : Id20) → None ≡ blob_number a.entries id.0 → IsBlobIndex a.entries id.0 None
+pub blob-nowhere : (a : Archive) (id : ObjectId) → None ≡ blob_number a.entries id.0 → IsBlobIndex a.entries id.0 None
 blob-nowhere a id is = blob-none a.entries id.0 (sym is)
 
 -- The message of a blob id's number has an index.
-pub never-lost : (v : StoreState) (a : Archive) (id : Id20) (n : ℕ) → KeepsArchive v a → Some n ≡ blob_number a.entries id.0 → is_some (text_of (messages a.entries) n) ≡ false → ⊥
+pub never-lost : (v : StoreState) (a : Archive) (id : ObjectId) (n : ℕ) → KeepsArchive v a → Some n ≡ blob_number a.entries id.0 → is_some (text_of (messages a.entries) n) ≡ false → ⊥
 never-lost v a id n keeps is lacks =
     let found = blob-found 1 a.entries id.0 n keeps.valid.ends (rises-from 1 0 a.entries keeps.valid.order) (sym is) in
     let wrong : true ≡ false = sym (ap is_some found.1.1) ∙ lacks in
     cc
 
 -- Whether an entry has a blob id, by its line.
-pub blob-line : (es : List StoredEntry) (i : ℕ) (line : EntryLine) (id : Id20) (b : Bool) → Some line ≡ line_if (slice_get es i) → b ≡ bytes_eq line.blob.0 id.0 → IsTrue b ↔ HasBlobAt es id i
+pub blob-line : (es : List StoredEntry) (i : ℕ) (line : EntryLine) (id : ObjectId) (b : Bool) → Some line ≡ line_if (slice_get es i) → b ≡ bytes_eq line.blob.0 id.0 → IsTrue b ↔ HasBlobAt es id i
 blob-line es i line id b lined test = by (slice_get es i) refl lined
   where
     by : (o : Option StoredEntry) → slice_get es i ≡ o → Some line ≡ line_if o → IsTrue b ↔ HasBlobAt es id i
@@ -83,14 +84,14 @@ blob-line es i line id b lined test = by (slice_get es i) refl lined
         let blob : line.blob ≡ e.seen.blob = ap (λ (l : EntryLine). l.blob) (same_Some line (line_of e) some) in
         let decides = bytes_eq-Decides line.blob.0 id.0 in (
           λ hit. (e, is, sym blob ∙ ap (λ (bytes : List ℕ). record { 0 = bytes }) (decides.0 (sym test ∙ hit))),
-          λ has. test ∙ decides.1 (ap (λ (i : Id20). i.0) (blob ∙ ap (λ (s : StoredEntry). s.seen.blob) (same_Some e has.0 (sym is ∙ has.1)) ∙ has.2)),
+          λ has. test ∙ decides.1 (ap (λ (i : ObjectId). i.0) (blob ∙ ap (λ (s : StoredEntry). s.seen.blob) (same_Some e has.0 (sym is ∙ has.1)) ∙ has.2)),
         )
 
 -- The result by the text that is read.
-pub blob-gives : (a : Archive) (id : Id20) (i : ℕ) (old new : List ℕ) → IsBlobIndex a.entries id.0 (Some i) → GivesTextOf a i old new (Ok tt) → GivesBlobIn a.entries id.0 old new (Ok true)
+pub blob-gives : (a : Archive) (id : ObjectId) (i : ℕ) (old new : List ℕ) → IsBlobIndex a.entries id.0 (Some i) → GivesTextOf a i old new (Ok tt) → GivesBlobIn a.entries id.0 old new (Ok true)
 blob-gives a id i old new is given = (given.0, is ∙ given.1, given.2)
 
-pub blob-refuses : (a : Archive) (id : Id20) (i : ℕ) (old new : List ℕ) (why : TextRefusal) → GivesTextOf a i old new (Err why) → GivesBlobIn a.entries id.0 old new (Err why)
+pub blob-refuses : (a : Archive) (id : ObjectId) (i : ℕ) (old new : List ℕ) (why : TextRefusal) → GivesTextOf a i old new (Err why) → GivesBlobIn a.entries id.0 old new (Err why)
 blob-refuses a id i old new DiskFault given = tt
 blob-refuses a id i old new (Damaged named found) given = given
 blob-refuses a id i old new NoMemory given = tt

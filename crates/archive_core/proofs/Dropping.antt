@@ -9,7 +9,8 @@ use Rattle.std.proofs.lemmas.List.{drop_more, drop_all, take_all, reverse-append
 use Rattle.std.proofs.lemmas.List.Elements.{filter_more, length_all_zip}
 use Rattle.std.proofs.lemmas.Option.{slice_get_within, slice_get-get_or, same_Some}
 use Rattle.std.proofs.lemmas.Slice.Eq.{bytes_eq-Decides}
-use Rattle.arch_base.specs.declared.ids.Id20.{Id20}
+use Rattle.arch_base.specs.declared.ids.ObjectId.{ObjectId}
+use Rattle.arch_base.specs.declared.ids.Form.TheVariants as form
 use Rattle.git_objects.specs.Objects.{blob_id_of}
 use Rattle.git_objects.specs.declared.entry_kind.EntryKind.{EntryKind}
 use Rattle.git_objects.specs.declared.entry_kind.EntryKind.TheVariants.{Message, Deletion}
@@ -83,7 +84,7 @@ takes-kept s t old new kept takes = subst (λ (k : EntryKind). TakesBy k old new
   by : (k : EntryKind) → TakesBy k old new s → TakesBy k old new t
   by Message puts =
       subst (λ (id : List ℕ). IndexPuts old new id t.seen.blob (owner_kept t)) (sym kept.id)
-      (subst (λ (b : Id20). IndexPuts old new s.seen.id b (owner_kept t)) (sym kept.blob)
+      (subst (λ (b : ObjectId). IndexPuts old new s.seen.id b (owner_kept t)) (sym kept.blob)
       (subst (λ (n : ℕ). IndexPuts old new s.seen.id s.seen.blob (record { number = n; content = t.seen.content })) (sym kept.number)
       (subst (λ (c : List ℕ). IndexPuts old new s.seen.id s.seen.blob (record { number = s.number; content = c })) (sym kept.content) puts)))
   by Deletion loses = subst (λ (id : List ℕ). IndexLoses old new id) (sym kept.id) loses
@@ -244,7 +245,7 @@ front-all entries blob index left places last ended start front last_is =
     ∙ ap (λ (n : ℕ). message_places n (without_blob entries blob)) front_is.left_is
 
 -- No place before an index is live with an entry that has a blob id.
-abbrev pub NoneLive : List MessagePlace → List StoredEntry → Id20 → ℕ → Type 0
+abbrev pub NoneLive : List MessagePlace → List StoredEntry → ObjectId → ℕ → Type 0
 NoneLive places entries blob index = (i : ℕ) (p : MessagePlace) → i < index → slice_get places i ≡ Some p → p.live ≡ true → has_blob_at entries p.entry blob ≡ false
 
 at_or_before : (i index : ℕ) → i < index + 1 → (i < index) ⊎ (i ≡ index)
@@ -254,10 +255,10 @@ at_or_before (suc i) zero less = absurd (omega (arith, less))
 at_or_before (suc i) (suc index) less = elim (at_or_before i index (omega (arith, less))) [ inl before ↦ inl (omega (arith, before)) | inr at ↦ inr (omega (arith, at)) ]
 
 -- The place at an index is no such one either: it is dead, or its entry has another blob id.
-pub none-first : (places : List MessagePlace) (entries : List StoredEntry) (blob : Id20) → NoneLive places entries blob 0
+pub none-first : (places : List MessagePlace) (entries : List StoredEntry) (blob : ObjectId) → NoneLive places entries blob 0
 none-first places entries blob i p before there lives = absurd (omega (arith, before))
 
-none_at : (places : List MessagePlace) (entries : List StoredEntry) (blob : Id20) (index : ℕ) (d : MessagePlace) → index < length places → ((get_or places index d).live ≡ true → has_blob_at entries (get_or places index d).entry blob ≡ false) → NoneLive places entries blob index
+none_at : (places : List MessagePlace) (entries : List StoredEntry) (blob : ObjectId) (index : ℕ) (d : MessagePlace) → index < length places → ((get_or places index d).live ≡ true → has_blob_at entries (get_or places index d).entry blob ≡ false) → NoneLive places entries blob index
     → NoneLive places entries blob (index + 1)
 none_at places entries blob index d less one none i p before there lives = elim (at_or_before i index before) [
   | inl earlier ↦ none i p earlier there lives
@@ -266,31 +267,31 @@ none_at places entries blob index d less one none i p before there lives = elim 
       ap (λ (q : MessagePlace). has_blob_at entries q.entry blob) (sym same) ∙ one (ap (λ (q : MessagePlace). q.live) same ∙ lives))
 ]
 
-pub none-more : (places : List MessagePlace) (entries : List StoredEntry) (blob : Id20) (index : ℕ) (d : MessagePlace) → index < length places → has_blob_at entries (get_or places index d).entry blob ≡ false → NoneLive places entries blob index → NoneLive places entries blob (index + 1)
+pub none-more : (places : List MessagePlace) (entries : List StoredEntry) (blob : ObjectId) (index : ℕ) (d : MessagePlace) → index < length places → has_blob_at entries (get_or places index d).entry blob ≡ false → NoneLive places entries blob index → NoneLive places entries blob (index + 1)
 none-more places entries blob index d less other none = none_at places entries blob index d less (λ lives. other) none
 
-pub none-dead : (places : List MessagePlace) (entries : List StoredEntry) (blob : Id20) (index : ℕ) (d : MessagePlace) → index < length places → (get_or places index d).live ≡ false → NoneLive places entries blob index → NoneLive places entries blob (index + 1)
+pub none-dead : (places : List MessagePlace) (entries : List StoredEntry) (blob : ObjectId) (index : ℕ) (d : MessagePlace) → index < length places → (get_or places index d).live ≡ false → NoneLive places entries blob index → NoneLive places entries blob (index + 1)
 none-dead places entries blob index d less dead none = none_at places entries blob index d less (λ lives. absurd (let wrong : true ≡ false = sym lives ∙ dead in cc)) none
 
-pub none-all : (places : List MessagePlace) (entries : List StoredEntry) (blob : Id20) (index : ℕ) → length places ≤ index → NoneLive places entries blob index → IsLiveWith places entries blob None
+pub none-all : (places : List MessagePlace) (entries : List StoredEntry) (blob : ObjectId) (index : ℕ) → length places ≤ index → NoneLive places entries blob index → IsLiveWith places entries blob None
 none-all places entries blob index past none i p there lives = let inside : i < length places = slice_get_within places i p there in none i p (omega (arith, inside, past)) there lives
 
 -- The place at an index is such a one.
-pub found-live : (places : List MessagePlace) (entries : List StoredEntry) (blob : Id20) (index : ℕ) (d : MessagePlace) → index < length places → (get_or places index d).live ≡ true → has_blob_at entries (get_or places index d).entry blob ≡ true → IsLiveWith places entries blob (Some (get_or places index d).number)
+pub found-live : (places : List MessagePlace) (entries : List StoredEntry) (blob : ObjectId) (index : ℕ) (d : MessagePlace) → index < length places → (get_or places index d).live ≡ true → has_blob_at entries (get_or places index d).entry blob ≡ true → IsLiveWith places entries blob (Some (get_or places index d).number)
 found-live places entries blob index d less lives has = (index, get_or places index d, slice_get-get_or places index d less, refl, lives, has)
 
 -- What is kept after an edit: the index and the places of the entries that stay, and of one more.
-pub indexes-edited : (old new : StoreState) (before after : Index) (gone blob : Id20) (text : List ℕ) → IndexesKept (without_blob old.entries gone.0) before → blob ≡ blob_id_of text → PutsText before after text blob old.root.next → EditsEntries old new gone text → IndexesStored new.entries after
+pub indexes-edited : (old new : StoreState) (before after : Index) (gone blob : ObjectId) (text : List ℕ) → IndexesKept (without_blob old.entries gone.0) before → blob ≡ blob_id_of form.Sha1 text → PutsText before after text blob old.root.next → EditsEntries old new gone text → IndexesStored new.entries after
 indexes-edited old new before after gone blob text indexed blob_is puts edits =
     let s = edits.entry in
     let put : IndexPuts before after s.seen.id blob (record { number = old.root.next; content = content_id_of text }) = puts s.seen.id edits.id in
-    let at_blob : IndexPuts before after s.seen.id s.seen.blob (record { number = old.root.next; content = content_id_of text }) = subst (λ (i : Id20). IndexPuts before after s.seen.id i (record { number = old.root.next; content = content_id_of text })) (blob_is ∙ sym edits.blob_is) put in
+    let at_blob : IndexPuts before after s.seen.id s.seen.blob (record { number = old.root.next; content = content_id_of text }) = subst (λ (i : ObjectId). IndexPuts before after s.seen.id i (record { number = old.root.next; content = content_id_of text })) (blob_is ∙ sym edits.blob_is) put in
     let at_number : IndexPuts before after s.seen.id s.seen.blob (record { number = s.number; content = content_id_of text }) = subst (λ (n : ℕ). IndexPuts before after s.seen.id s.seen.blob (record { number = n; content = content_id_of text })) (sym edits.number) at_blob in
     let message_put : IndexPuts before after s.seen.id s.seen.blob (owner_kept s) = subst (λ (c : List ℕ). IndexPuts before after s.seen.id s.seen.blob (record { number = s.number; content = c })) (sym edits.content) at_number in
     subst (λ (es : List StoredEntry). IndexesStored es after) (sym edits.entries)
     (indexes_more edits.front s before after (indexed edits.front edits.kept) (subst (λ (k : EntryKind). TakesBy k before after s) (sym edits.kind) message_put))
 
-pub places-edited : (old new : StoreState) (gone : Id20) (text : List ℕ) (count : ℕ) → count ≡ length (without_blob old.entries gone.0) → EditsEntries old new gone text → message_places 0 (without_blob old.entries gone.0) ++ place_of old.root.next count true ∷ [] ≡ message_places 0 new.entries
+pub places-edited : (old new : StoreState) (gone : ObjectId) (text : List ℕ) (count : ℕ) → count ≡ length (without_blob old.entries gone.0) → EditsEntries old new gone text → message_places 0 (without_blob old.entries gone.0) ++ place_of old.root.next count true ∷ [] ≡ message_places 0 new.entries
 places-edited old new gone text count count_is edits =
     let at : count ≡ 0 + length edits.front = (let same : length (without_blob old.entries gone.0) ≡ length edits.front = length_all_zip KeptOf (without_blob old.entries gone.0) edits.front edits.kept in omega (arith, count_is, same)) in
     ap (λ (ps : List MessagePlace). ps ++ place_of old.root.next count true ∷ []) (sym (places-kept 0 (without_blob old.entries gone.0) edits.front edits.kept))
@@ -299,8 +300,8 @@ places-edited old new gone text count count_is edits =
     ∙ sym (ap (message_places 0) edits.entries ∙ places-message 0 edits.front edits.entry edits.kind)
 
 -- What is kept after a purge.
-pub indexes-dropped : (old new : StoreState) (index : Index) (gone : Id20) → IndexesKept (without_blob old.entries gone.0) index → DropsEntries old new gone → IndexesStored new.entries index
+pub indexes-dropped : (old new : StoreState) (index : Index) (gone : ObjectId) → IndexesKept (without_blob old.entries gone.0) index → DropsEntries old new gone → IndexesStored new.entries index
 indexes-dropped old new index gone indexed drops = indexed new.entries drops.entries
 
-pub places-dropped : (old new : StoreState) (places : List MessagePlace) (gone : Id20) → places ≡ message_places 0 (without_blob old.entries gone.0) → DropsEntries old new gone → places ≡ message_places 0 new.entries
+pub places-dropped : (old new : StoreState) (places : List MessagePlace) (gone : ObjectId) → places ≡ message_places 0 (without_blob old.entries gone.0) → DropsEntries old new gone → places ≡ message_places 0 new.entries
 places-dropped old new places gone is drops = is ∙ sym (places-kept 0 (without_blob old.entries gone.0) new.entries drops.entries)

@@ -4,7 +4,8 @@ use Rattle.std.specs.Str.{bytes_eq}
 use Rattle.std.proofs.Common.{◌∙◌, sym, ap, subst}
 use Rattle.std.proofs.lemmas.Option.{get_or_from_slice_get, same_Some}
 use Rattle.std.proofs.lemmas.Slice.Eq.{bytes_eq-Decides}
-use Rattle.arch_base.specs.declared.ids.Id20.{Id20}
+use Rattle.arch_base.specs.declared.ids.ObjectId.{ObjectId}
+use Rattle.arch_base.specs.declared.ids.Form.TheVariants as form
 use Rattle.git_objects.specs.Objects.{blob_id_of}
 use Rattle.mail_reader.specs.declared.storing.StoredRefusal.{StoredRefusal}
 use Rattle.arch_model.specs.Archives.{Archive, live, text_of}
@@ -22,15 +23,15 @@ use Rattle.archive_core.proofs.ByBlob.{message-of}
 use Rattle.archive_core.proofs.ByNumber.{entry-text, text-gives}
 
 -- The entry of a live number has the blob id of its text.
-pub live-blob : (v : StoreState) (a : Archive) (n i : ℕ) (text : List ℕ) → KeepsArchive v a → (at : IsLiveAt v.entries n i) → text_of (live a.entries) n ≡ Some text → at.message.entry.seen.blob ≡ blob_id_of text
+pub live-blob : (v : StoreState) (a : Archive) (n i : ℕ) (text : List ℕ) → KeepsArchive v a → (at : IsLiveAt v.entries n i) → text_of (live a.entries) n ≡ Some text → at.message.entry.seen.blob ≡ blob_id_of form.Sha1 text
 live-blob v a n i text keeps at shown =
     let own = message-of v a n i keeps at.message in
     let read : text_of (live a.entries) n ≡ Some own.entry.text = entry-text v a keeps n i at own.entry.text (ap text_if own.there) in
-    own.blob ∙ ap blob_id_of (same_Some own.entry.text text (sym read ∙ shown))
+    own.blob ∙ ap (blob_id_of form.Sha1) (same_Some own.entry.text text (sym read ∙ shown))
 
 -- A form with another blob id isn't the text.
-pub compares-other : (v : StoreState) (a : Archive) (n i : ℕ) (seen : List StoredEntry) (e : StoredEntry) (found : Id20) (form bytes text : List ℕ) (wanted : Result (List ℕ) StoredRefusal) (r : Bool)
-    → KeepsArchive v a → IsLiveAt v.entries n i → seen ≡ v.entries → wanted ≡ Ok form → found ≡ blob_id_of bytes → bytes ≡ form → r ≡ not (bytes_eq found.0 (get_or seen i e).seen.blob.0) → r ≡ true → text_of (live a.entries) n ≡ Some text → false ≡ is_form text wanted
+pub compares-other : (v : StoreState) (a : Archive) (n i : ℕ) (seen : List StoredEntry) (e : StoredEntry) (found : ObjectId) (form bytes text : List ℕ) (wanted : Result (List ℕ) StoredRefusal) (r : Bool)
+    → KeepsArchive v a → IsLiveAt v.entries n i → seen ≡ v.entries → wanted ≡ Ok form → found ≡ blob_id_of form.Sha1 bytes → bytes ≡ form → r ≡ not (bytes_eq found.0 (get_or seen i e).seen.blob.0) → r ≡ true → text_of (live a.entries) n ≡ Some text → false ≡ is_form text wanted
 compares-other v a n i seen e found form bytes text wanted r keeps at same form_is found_is bytes_is r_is told shown =
     by (bytes_eq form text) refl ∙ ap (is_form text) (sym form_is)
   where
@@ -41,9 +42,9 @@ compares-other v a n i seen e found form bytes text wanted r keeps at same form_
     by false other = sym other
     by true equal =
         absurd (let is_text : form ≡ text = (bytes_eq-Decides form text).0 equal in
-        let blob : (get_or seen i e).seen.blob ≡ blob_id_of text = ap (λ (s : StoredEntry). s.seen.blob) at_entry ∙ live-blob v a n i text keeps at shown in
-        let ids : found ≡ (get_or seen i e).seen.blob = found_is ∙ ap blob_id_of (bytes_is ∙ is_text) ∙ sym blob in
-        let hit : bytes_eq found.0 (get_or seen i e).seen.blob.0 ≡ true = (bytes_eq-Decides found.0 (get_or seen i e).seen.blob.0).1 (ap (λ (id : Id20). id.0) ids) in
+        let blob : (get_or seen i e).seen.blob ≡ blob_id_of form.Sha1 text = ap (λ (s : StoredEntry). s.seen.blob) at_entry ∙ live-blob v a n i text keeps at shown in
+        let ids : found ≡ (get_or seen i e).seen.blob = found_is ∙ ap (blob_id_of form.Sha1) (bytes_is ∙ is_text) ∙ sym blob in
+        let hit : bytes_eq found.0 (get_or seen i e).seen.blob.0 ≡ true = (bytes_eq-Decides found.0 (get_or seen i e).seen.blob.0).1 (ap (λ (id : ObjectId). id.0) ids) in
         let wrong : true ≡ false = sym told ∙ r_is ∙ ap not hit in cc)
 
 -- A text that was read is compared with the form.

@@ -1,7 +1,7 @@
 -- The text that an edit keeps.
 use Rattle.std.specs.Prelude.{◌≡◌, ℕ, List, Option, Some}
 use Rattle.std.proofs.Common.{ap}
-use Rattle.arch_base.specs.declared.ids.Id20.{Id20}
+use Rattle.arch_base.specs.declared.ids.ObjectId.{ObjectId}
 use Rattle.mail_commits.specs.declared.ids.TextIds.{TextIds}
 use Rattle.disk_model.specs.Disk.{Content}
 use Rattle.arch_model.specs.Archives.{Archive, live, text_of, with_entry, without_entries}
@@ -17,7 +17,7 @@ use Rattle.archive_core.proofs.Standing.{store_keeps}
 use Rattle.archive_core.proofs.WithoutText.{index-without, live-message-is, message-agrees, purge-blob, unless-taken}
 
 -- A text that is judged to be taken is what an edit keeps.
-pub taken-kept : {D : Type 0} (content : D → Option Content) (disk : D) (v : StoreState) (index : Index) (blob : Id20) (number : ℕ) (bytes text : List ℕ) (arrived n : ℕ) (ids : TextIds) (a : Archive) (cache gone : List ℕ) → MayPurge v number blob → IndexesKept (without_blob v.entries blob.0) index → JudgesOn content disk v index bytes (Take text ids n)
+pub taken-kept : {D : Type 0} (content : D → Option Content) (disk : D) (v : StoreState) (index : Index) (blob : ObjectId) (number : ℕ) (bytes text : List ℕ) (arrived n : ℕ) (ids : TextIds) (a : Archive) (cache gone : List ℕ) → MayPurge v number blob → IndexesKept (without_blob v.entries blob.0) index → JudgesOn content disk v index bytes (Take text ids n)
     → IsStoreWith v cache a (content disk) → text_of (live a.entries) number ≡ Some gone → KeepsText (without_entries a gone) (unless_refused a (delivered (without_entries a gone) bytes arrived)) arrived text
 taken-kept content disk v index blob number bytes text arrived n ids a cache gone may indexed judges store shown =
     let keeps = store_keeps v cache a (content disk) store in

@@ -4,7 +4,7 @@ use Rattle.std.specs.List.{Contains}
 use Rattle.std.proofs.Common.{◌∙◌, sym, ap, subst, inl, inr, arith}
 use Rattle.std.proofs.lemmas.Bool.{false≢true}
 use Rattle.arch_base.specs.Counts.{RoseIf}
-use Rattle.arch_base.specs.declared.ids.Id20.{Id20}
+use Rattle.arch_base.specs.declared.ids.ObjectId.{ObjectId}
 use Rattle.disk_model.specs.declared.disk.Disk.{Ghosts as Disk}
 use Rattle.disk_model.specs.declared.name.FileName.{FileName}
 use Rattle.disk_model.specs.Disk.{Files, Content, Image, BothTold, WhereTold, Unchanged, ReadsFit}
@@ -599,7 +599,7 @@ module _ {D : Type 0} (g : Disk D)
     pub cause-from : {T : Type 0} (faults : D → ℕ) (disk : D) (r : Result T TextRefusal) → RoseIf (r ≡ Err reading.DiskFault) (faults inside.disk) (faults disk) → TellsOther r → ReadCause (faults old.disk) (faults disk) r
     cause-from faults disk r rose other = subst (λ (o : Owning D). ReadCause (faults o.disk) (faults disk) r) is (read-cause (faults inside.disk) (faults disk) r rose other)
 
-    pub blob-ids-from : (id : Id20) (had has : List ℕ) (r : Result Bool TextRefusal) → GivesBlobKept inside.view (g.content inside.disk) id had has r → GivesBlobKept old.view (g.content old.disk) id had has r
+    pub blob-ids-from : (id : ObjectId) (had has : List ℕ) (r : Result Bool TextRefusal) → GivesBlobKept inside.view (g.content inside.disk) id had has r → GivesBlobKept old.view (g.content old.disk) id had has r
     blob-ids-from id had has r kept = subst (λ (o : Owning D). GivesBlobKept o.view (g.content o.disk) id had has r) is kept
 
     pub once-from : (reads : D → ℕ) (disk : D) → reads inside.disk ≤ reads disk → reads disk ≤ reads inside.disk + 1 → ReadsOnce (reads old.disk) (reads disk)

@@ -1,7 +1,8 @@
 -- The index of what a store keeps: that of an archive's entries, and with one more entry.
 use Rattle.std.specs.Prelude.{◌≡◌, ℕ, true, false, List, [], Option, Some, None, IsSome, unwrap_or, refl}
 use Rattle.std.proofs.Common.{◌∙◌, sym, subst}
-use Rattle.arch_base.specs.declared.ids.Id20.{Id20}
+use Rattle.arch_base.specs.declared.ids.ObjectId.{ObjectId}
+use Rattle.arch_base.specs.declared.ids.Form.TheVariants as form
 use Rattle.git_objects.specs.Objects.{blob_id_of}
 use Rattle.git_objects.specs.declared.entry_kind.EntryKind.{EntryKind}
 use Rattle.mail_reader.specs.Ids.{own_id}
@@ -34,11 +35,11 @@ id_of None some = absurd (let no : false ≡ true = some in cc)
 id_of (Some id) some = refl
 
 -- An index with a new text is that of what is kept with it.
-pub indexes-added : (old new : StoreState) (before after : Index) (text : List ℕ) (blob : Id20) → IndexesStored old.entries before → blob ≡ blob_id_of text → PutsText before after text blob old.root.next → AddsEntry old new text → IndexesStored new.entries after
+pub indexes-added : (old new : StoreState) (before after : Index) (text : List ℕ) (blob : ObjectId) → IndexesStored old.entries before → blob ≡ blob_id_of form.Sha1 text → PutsText before after text blob old.root.next → AddsEntry old new text → IndexesStored new.entries after
 indexes-added old new before after text blob indexed blob_is puts adds =
     let s = adds.entry in
     let put : IndexPuts before after s.seen.id blob (record { number = old.root.next; content = content_id_of text }) = puts s.seen.id adds.id in
-    let at_blob : IndexPuts before after s.seen.id s.seen.blob (record { number = old.root.next; content = content_id_of text }) = subst (λ (i : Id20). IndexPuts before after s.seen.id i (record { number = old.root.next; content = content_id_of text })) (blob_is ∙ sym adds.blob) put in
+    let at_blob : IndexPuts before after s.seen.id s.seen.blob (record { number = old.root.next; content = content_id_of text }) = subst (λ (i : ObjectId). IndexPuts before after s.seen.id i (record { number = old.root.next; content = content_id_of text })) (blob_is ∙ sym adds.blob) put in
     let at_number : IndexPuts before after s.seen.id s.seen.blob (record { number = s.number; content = content_id_of text }) = subst (λ (n : ℕ). IndexPuts before after s.seen.id s.seen.blob (record { number = n; content = content_id_of text })) (sym adds.number) at_blob in
     let message_put : IndexPuts before after s.seen.id s.seen.blob (owner_kept s) = subst (λ (c : List ℕ). IndexPuts before after s.seen.id s.seen.blob (record { number = s.number; content = c })) (sym adds.content) at_number in
     subst (λ (es : List StoredEntry). IndexesStored es after) (sym adds.entries)

@@ -2,7 +2,8 @@
 use Rattle.std.specs.Prelude.{◌≡◌, ◌||◌, ◌<◌, ◌+◌, ℕ, Bool, true, false, not, nat_lt, List, [], ◌∷◌, Option, Some, None, Result, Ok, Err, OnOk, is_ok, unwrap_or, if◌then◌else◌, refl}
 use Rattle.std.specs.List.{AllByRecursion}
 use Rattle.std.proofs.Common.{◌∙◌, sym, ap}
-use Rattle.arch_base.specs.declared.ids.Id20.{Id20}
+use Rattle.arch_base.specs.declared.ids.ObjectId.{ObjectId}
+use Rattle.arch_base.specs.declared.ids.Form.TheVariants as form
 use Rattle.disk_model.specs.Disk.{Content}
 use Rattle.git_objects.specs.Objects.{blob_id_of}
 use Rattle.mime_parts.specs.Words.{mail_words}
@@ -37,11 +38,11 @@ use Rattle.archive_core.specs.Walks.{ViewsDone, ViewsAfter, without_gone}
 
 -- A command that isn't accepted keeps the archive.
 abbrev pub KeepsUnlessOk : Archive → Done → Type 0
-KeepsUnlessOk a d = ((n : ℕ) (id : Id20) → d.answer ≡ answer.Ok n id → ⊥) → d.archive ≡ a
+KeepsUnlessOk a d = ((n : ℕ) (id : ObjectId) → d.answer ≡ answer.Ok n id → ⊥) → d.archive ≡ a
 
-new_keeps : (t : Bool) (a : Archive) (text : List ℕ) (moment : ℕ) → KeepsUnlessOk a (if t then refused a (answer.Full a.config.max) else record { archive = with_entry a (new_epoch a) text moment; answer = answer.Ok a.next (blob_id_of text) })
+new_keeps : (t : Bool) (a : Archive) (text : List ℕ) (moment : ℕ) → KeepsUnlessOk a (if t then refused a (answer.Full a.config.max) else record { archive = with_entry a (new_epoch a) text moment; answer = answer.Ok a.next (blob_id_of form.Sha1 text) })
 new_keeps true a text moment never = refl
-new_keeps false a text moment never = absurd (never a.next (blob_id_of text) refl)
+new_keeps false a text moment never = absurd (never a.next (blob_id_of form.Sha1 text) refl)
 
 kept_keeps : (a : Archive) (text : List ℕ) (moment : ℕ) (found : Option ℕ) → KeepsUnlessOk a (delivered_kept a text moment found)
 kept_keeps a text moment (Some number) never = refl
@@ -63,7 +64,7 @@ mirror_keeps false a bytes moment never = form_keeps a moment (stored bytes) nev
 
 text_keeps : (a : Archive) (number moment : ℕ) (found : Option (List ℕ)) → KeepsUnlessOk a (removed_text a number moment found)
 text_keeps a number moment None never = refl
-text_keeps a number moment (Some text) never = absurd (never number (blob_id_of text) refl)
+text_keeps a number moment (Some text) never = absurd (never number (blob_id_of form.Sha1 text) refl)
 
 removed_keeps : (t : Bool) (a : Archive) (number moment : ℕ) → KeepsUnlessOk a (if t then refused a answer.IsMirror else removed_text a number moment (text_of (live a.entries) number))
 removed_keeps true a number moment never = refl
@@ -71,14 +72,14 @@ removed_keeps false a number moment never = text_keeps a number moment (text_of 
 
 found_keeps : (a : Archive) (number : ℕ) (found : Option (List ℕ)) → KeepsUnlessOk a (purged_text a number found)
 found_keeps a number None never = refl
-found_keeps a number (Some text) never = absurd (never number (blob_id_of text) refl)
+found_keeps a number (Some text) never = absurd (never number (blob_id_of form.Sha1 text) refl)
 
 purged_keeps : (t : Bool) (a : Archive) (number : ℕ) → KeepsUnlessOk a (if t then refused a answer.IsMirror else purged_text a number (text_of (messages a.entries) number))
 purged_keeps true a number never = refl
 purged_keeps false a number never = found_keeps a number (text_of (messages a.entries) number) never
 
 -- An answer that a command was carried out has a number and an id.
-never_accepted : (reply : Answer) → ((n : ℕ) (id : Id20) → reply ≡ answer.Ok n id → ⊥) → is_accepted reply ≡ false
+never_accepted : (reply : Answer) → ((n : ℕ) (id : ObjectId) → reply ≡ answer.Ok n id → ⊥) → is_accepted reply ≡ false
 never_accepted (answer.Ok n id) never = absurd (never n id refl)
 never_accepted other never = refl
 
@@ -107,34 +108,34 @@ applied-keeps a (Purge number) moment never = purged_keeps a.config.mirror a num
 applied-keeps a (Edit number bytes) moment never = edited_keeps a.config.mirror a number bytes.now moment never
 
 -- An accepted delivery takes the next number.
-new_next : (t : Bool) (a : Archive) (text : List ℕ) (moment n : ℕ) (id : Id20) → (if t then refused a (answer.Full a.config.max) else record { archive = with_entry a (new_epoch a) text moment; answer = answer.Ok a.next (blob_id_of text) }).answer ≡ answer.Ok n id → n ≡ a.next
+new_next : (t : Bool) (a : Archive) (text : List ℕ) (moment n : ℕ) (id : ObjectId) → (if t then refused a (answer.Full a.config.max) else record { archive = with_entry a (new_epoch a) text moment; answer = answer.Ok a.next (blob_id_of form.Sha1 text) }).answer ≡ answer.Ok n id → n ≡ a.next
 new_next true a text moment n id is = absurd (cc)
 new_next false a text moment n id is = let same : a.next ≡ n = cc in sym same
 
-kept_next : (a : Archive) (text : List ℕ) (moment n : ℕ) (id : Id20) (found : Option ℕ) → (delivered_kept a text moment found).answer ≡ answer.Ok n id → n ≡ a.next
+kept_next : (a : Archive) (text : List ℕ) (moment n : ℕ) (id : ObjectId) (found : Option ℕ) → (delivered_kept a text moment found).answer ≡ answer.Ok n id → n ≡ a.next
 kept_next a text moment n id (Some number) is = absurd (cc)
 kept_next a text moment n id None is = new_next (nat_lt a.config.max a.next) a text moment n id is
 
-choice_next : (a : Archive) (moment n : ℕ) (id : Id20) (taken : Choice) → (delivered_choice a moment taken).answer ≡ answer.Ok n id → n ≡ a.next
+choice_next : (a : Archive) (moment n : ℕ) (id : ObjectId) (taken : Choice) → (delivered_choice a moment taken).answer ≡ answer.Ok n id → n ≡ a.next
 choice_next a moment n id (choice.Repeat number) is = absurd (cc)
 choice_next a moment n id (choice.Take text) is = kept_next a text moment n id (collision a.entries text) is
 
-form_next : (a : Archive) (moment n : ℕ) (id : Id20) (form : Result (List ℕ) StoredRefusal) → (delivered_form a moment form).answer ≡ answer.Ok n id → n ≡ a.next
+form_next : (a : Archive) (moment n : ℕ) (id : ObjectId) (form : Result (List ℕ) StoredRefusal) → (delivered_form a moment form).answer ≡ answer.Ok n id → n ≡ a.next
 form_next a moment n id (Ok text) is = choice_next a moment n id (choice_of a text) is
 form_next a moment n id (Err storing.NoFields) is = absurd (cc)
 form_next a moment n id (Err (storing.TooLarge len)) is = absurd (cc)
 form_next a moment n id (Err storing.NoMemory) is = absurd (cc)
 
-mirror_next : (t : Bool) (a : Archive) (bytes : List ℕ) (moment n : ℕ) (id : Id20) → (if t then refused a answer.IsMirror else delivered_form a moment (stored bytes)).answer ≡ answer.Ok n id → n ≡ a.next
+mirror_next : (t : Bool) (a : Archive) (bytes : List ℕ) (moment n : ℕ) (id : ObjectId) → (if t then refused a answer.IsMirror else delivered_form a moment (stored bytes)).answer ≡ answer.Ok n id → n ≡ a.next
 mirror_next true a bytes moment n id is = absurd (cc)
 mirror_next false a bytes moment n id is = form_next a moment n id (stored bytes) is
 
 -- An accepted removal takes its number from the live messages.
-removal_gone : (a : Archive) (number moment n : ℕ) (id : Id20) (found : Option (List ℕ)) → (removed_text a number moment found).answer ≡ answer.Ok n id → live (removed_text a number moment found).archive.entries ≡ without_number number (live a.entries)
+removal_gone : (a : Archive) (number moment n : ℕ) (id : ObjectId) (found : Option (List ℕ)) → (removed_text a number moment found).answer ≡ answer.Ok n id → live (removed_text a number moment found).archive.entries ≡ without_number number (live a.entries)
 removal_gone a number moment n id None is = absurd (cc)
 removal_gone a number moment n id (Some text) is = live-deletion a.entries number (new_epoch a) text moment
 
-removed_gone : (t : Bool) (a : Archive) (number moment n : ℕ) (id : Id20) → (if t then refused a answer.IsMirror else removed_text a number moment (text_of (live a.entries) number)).answer ≡ answer.Ok n id
+removed_gone : (t : Bool) (a : Archive) (number moment n : ℕ) (id : ObjectId) → (if t then refused a answer.IsMirror else removed_text a number moment (text_of (live a.entries) number)).answer ≡ answer.Ok n id
     → live (if t then refused a answer.IsMirror else removed_text a number moment (text_of (live a.entries) number)).archive.entries ≡ without_number number (live a.entries)
 removed_gone true a number moment n id is = absurd (cc)
 removed_gone false a number moment n id is = removal_gone a number moment n id (text_of (live a.entries) number) is
@@ -174,7 +175,7 @@ views_gone a text (Some m) valid is =
 one_text : (found : Option (List ℕ)) (text other : List ℕ) → found ≡ Some text → found ≡ Some other → text ≡ other
 one_text found text other is was = ap (λ (o : Option (List ℕ)). unwrap_or o text) (sym is ∙ was)
 
-purge_views : (a : Archive) (number n : ℕ) (id : Id20) (gone : Option ℕ) (old new : Viewed) → IsArchive a → (purged a number).answer ≡ answer.Ok n id → IsGone a (Purge number) gone → old ≡ views_of (live a.entries) → new ≡ without_gone old gone → new ≡ views_of (live (purged a number).archive.entries)
+purge_views : (a : Archive) (number n : ℕ) (id : ObjectId) (gone : Option ℕ) (old new : Viewed) → IsArchive a → (purged a number).answer ≡ answer.Ok n id → IsGone a (Purge number) gone → old ≡ views_of (live a.entries) → new ≡ without_gone old gone → new ≡ views_of (live (purged a number).archive.entries)
 purge_views a number n id gone old new valid is taken old_is new_is =
     let dropped = purged_is a number n id is in
     let same : taken.0 ≡ dropped.0 = one_text (text_of (messages a.entries) number) taken.0 dropped.0 taken.1 dropped.1 in
@@ -184,7 +185,7 @@ purge_views a number n id gone old new valid is taken old_is new_is =
     ∙ ap (λ (t : List ℕ). views_of (live (without_entries a t).entries)) same
     ∙ ap (λ (b : Archive). views_of (live b.entries)) (sym dropped.2)
 
-edit_views : (a : Archive) (number : ℕ) (bytes : List ℕ) (moment n : ℕ) (id : Id20) (text : List ℕ) (gone : Option ℕ) (old new : Viewed) → IsArchive a → (edited a number bytes moment).answer ≡ answer.Ok n id
+edit_views : (a : Archive) (number : ℕ) (bytes : List ℕ) (moment n : ℕ) (id : ObjectId) (text : List ℕ) (gone : Option ℕ) (old new : Viewed) → IsArchive a → (edited a number bytes moment).answer ≡ answer.Ok n id
     → (was : List ℕ) × (text_of (live a.entries) number ≡ Some was) × KeepsText (without_entries a was) (edited a number bytes moment) moment text → gone ≡ Some number
     → old ≡ views_of (live a.entries) → new ≡ with_mail (without_gone old gone) (row_of n text moment) (mail_words text) → new ≡ views_of (live (edited a number bytes moment).archive.entries)
 edit_views a number bytes moment n id text gone old new valid is kept gone_is old_is new_is =
@@ -195,7 +196,7 @@ edit_views a number bytes moment n id text gone old new valid is kept gone_is ol
     let views_are : without_gone old gone ≡ views_of (live rest.entries) = ap (λ (g : Option ℕ). without_gone old g) gone_is ∙ ap (λ (v : Viewed). without_gone v (Some number)) old_is ∙ views_gone a kept.0 (Some number) valid kept.1 in
     with_kept rest (edited a number bytes moment).archive text moment n (without_gone old gone) new (valid_without a kept.0 valid) views_are (mirror_next rest.config.mirror rest bytes moment n id answer_is) kept.2 new_is
 
-pub done-views : (a : Archive) (command : Command) (moment n : ℕ) (id : Id20) (text : List ℕ) (lost : Option ℕ) (old new : Viewed) → IsArchive a → (applied a command moment).answer ≡ answer.Ok n id → IfDelivery (is_delivery command) (KeepsTextFor command a (applied a command moment) moment text)
+pub done-views : (a : Archive) (command : Command) (moment n : ℕ) (id : ObjectId) (text : List ℕ) (lost : Option ℕ) (old new : Viewed) → IsArchive a → (applied a command moment).answer ≡ answer.Ok n id → IfDelivery (is_delivery command) (KeepsTextFor command a (applied a command moment) moment text)
     → IsGone a command lost → old ≡ views_of (live a.entries) → ViewsDone command lost n text moment old new → new ≡ views_of (live (applied a command moment).archive.entries)
 done-views a (Deliver bytes) moment n id text lost old new valid is kept taken old_is new_is = with_kept a (delivered a bytes.now moment).archive text moment n old new valid old_is (mirror_next a.config.mirror a bytes.now moment n id is) kept new_is
 done-views a (Remove number) moment n id text lost old new valid is kept taken old_is new_is =
@@ -221,7 +222,7 @@ pub needs-stale : (needs ok : Bool) → needs ≡ true → (needs || not ok) ≡
 needs-stale true ok is = refl
 needs-stale false ok is = absurd (cc)
 
-same-views : (a : Archive) (command : Command) (moment : ℕ) (old new : Viewed) → old ≡ views_of (live a.entries) → new ≡ old → ((n : ℕ) (id : Id20) → (applied a command moment).answer ≡ answer.Ok n id → ⊥) → new ≡ views_of (live (applied a command moment).archive.entries)
+same-views : (a : Archive) (command : Command) (moment : ℕ) (old new : Viewed) → old ≡ views_of (live a.entries) → new ≡ old → ((n : ℕ) (id : ObjectId) → (applied a command moment).answer ≡ answer.Ok n id → ⊥) → new ≡ views_of (live (applied a command moment).archive.entries)
 same-views a command moment old new old_is same never = same ∙ old_is ∙ ap (λ (b : Archive). views_of (live b.entries)) (sym (applied-keeps a command moment never))
 
 -- The views keep up with a command, however it was answered.

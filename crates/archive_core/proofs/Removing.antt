@@ -6,6 +6,7 @@ use Rattle.std.proofs.Common.{◌∙◌, sym, ap, subst, arith}
 use Rattle.std.proofs.lemmas.Bool.Decides.{nat_tests}
 use Rattle.std.proofs.lemmas.Slice.Eq.{bytes_eq-Decides}
 use Rattle.std.proofs.lemmas.Option.{slice_get-get_or, get_or_from_slice_get, same_Some}
+use Rattle.arch_base.specs.declared.ids.Form.TheVariants as form
 use Rattle.git_objects.specs.Objects.{blob_id_of}
 use Rattle.git_objects.specs.declared.entry_kind.EntryKind.{EntryKind}
 use Rattle.git_objects.specs.declared.entry_kind.EntryKind.TheVariants.{Message, Deletion}
@@ -66,7 +67,7 @@ shown_by v a number moment found keeps is shown =
     ∙ ap (removed_text a number moment) shown
 
 pub removed-is : (v : StoreState) (a : Archive) (number moment : ℕ) (text : List ℕ) → KeepsArchive v a → v.root.config.mirror ≡ false → text_of (live a.entries) number ≡ Some text
-    → removed a number moment ≡ record { archive = with_deletion a number (new_epoch a) text moment; answer = answer.Ok number (blob_id_of text) }
+    → removed a number moment ≡ record { archive = with_deletion a number (new_epoch a) text moment; answer = answer.Ok number (blob_id_of form.Sha1 text) }
 removed-is v a number moment text keeps is shown = shown_by v a number moment (Some text) keeps is shown
 
 -- The places after one more entry.

@@ -19,7 +19,7 @@ use Rattle.arch_model.specs.declared.command.Command.TheVariants.{Deliver, Remov
 use Rattle.epoch_file.specs.declared.refusal.StoreRefusal.{StoreRefusal}
 use Rattle.epoch_file.specs.declared.refusal.StoreRefusal.TheVariants as refusal
 use Rattle.epoch_store.specs.Laws.{StoreRecovers}
-use Rattle.arch_base.specs.declared.ids.Id20.{Id20}
+use Rattle.arch_base.specs.declared.ids.ObjectId.{ObjectId}
 use Rattle.epoch_store.specs.Promises.{Appends, ChangesStore, Renews, StaysBy, WriteKind}
 use Rattle.store_finding.specs.Kept.{StoreState, IsStoreWith, KeepsArchive}
 use Rattle.epoch_store.specs.Commands.{StoreHasSizes, RecoversOneOf, UnlessFailed}
@@ -177,7 +177,7 @@ module _ {D : Type 0} (g : Disk D)
         })
 
     -- It was carried out.
-    pub done-taken : (number : ℕ) (id : Id20) → ChangesStore g mid new v after (way_of m) Makes (Ok tt) → ((a : Archive) (cache : List ℕ) → IsStoreWith v cache a (g.content old) → (wanted a).answer ≡ answer.Ok number id) → FilesFor m v after → IfUnreadFor m (answer.Ok number id) (new ≡ old) → IsForCommand m (answer.Ok number id)
+    pub done-taken : (number : ℕ) (id : ObjectId) → ChangesStore g mid new v after (way_of m) Makes (Ok tt) → ((a : Archive) (cache : List ℕ) → IsStoreWith v cache a (g.content old) → (wanted a).answer ≡ answer.Ok number id) → FilesFor m v after → IfUnreadFor m (answer.Ok number id) (new ≡ old) → IsForCommand m (answer.Ok number id)
         → TakesCommand g old new v after m wanted (answer.Ok number id)
     done-taken number id changes answers files unmoved for_command = record {
       crash = run (Ok tt) changes;

@@ -9,6 +9,7 @@ use Rattle.arch_model.specs.declared.answer.Answer.TheVariants as answer
 use Rattle.arch_model.specs.declared.text_refusal.TextRefusal.{TextRefusal}
 use Rattle.arch_model.specs.declared.text_refusal.TextRefusal.TheVariants as reading
 use Rattle.arch_base.specs.declared.config.Config.{Config}
+use Rattle.arch_base.specs.declared.ids.Form.TheVariants as form
 use Rattle.arch_judge.specs.Judging.{IsForDelivery, MayTake, RefusesLast}
 use Rattle.arch_judge.specs.declared.index.Index.{Index}
 use Rattle.arch_judge.specs.declared.judging.Verdict.{Verdict}
@@ -51,7 +52,7 @@ place-damage v index old new (reading.Damaged named other) k gives finds = at_pl
   lacks s here None found = tt
   lacks s here (Some c) found = λ has.
       let given = gives s here in
-      given.2 (found.2 ∙ (ap blob_id_of (found.1 has.long) ∙ (has.blob ∙ sym given.1)))
+      given.2 (found.2 ∙ (ap (blob_id_of form.Sha1) (found.1 has.long) ∙ (has.blob ∙ sym given.1)))
 
   at_place : (o : Option StoredEntry) → slice_get v.entries index ≡ o → TellsEntry v k (damaged_place v o)
   at_place None here = tt

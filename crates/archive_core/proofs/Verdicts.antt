@@ -5,7 +5,8 @@ use Rattle.std.proofs.Common.{◌∙◌, sym, ap, subst, arith}
 use Rattle.std.proofs.lemmas.Slice.Eq.{bytes_eq-Decides}
 use Rattle.arch_base.specs.Counts.{RoseIf}
 use Rattle.arch_base.specs.declared.config.Config.{Config}
-use Rattle.arch_base.specs.declared.ids.Id20.{Id20}
+use Rattle.arch_base.specs.declared.ids.ObjectId.{ObjectId}
+use Rattle.arch_base.specs.declared.ids.Form.TheVariants as form
 use Rattle.mail_commits.specs.Ids.{text_ids_of}
 use Rattle.mail_commits.specs.declared.ids.TextIds.{TextIds}
 use Rattle.git_objects.specs.Objects.{blob_id_of}
@@ -131,12 +132,12 @@ refuses-message v a number index old new reading.NoMemory reply is given = subst
 refuses-message v a number index old new (reading.Damaged named found) reply is given = absurd given
 
 -- The texts are compared as the definition has it.
-pub compares : (a : Archive) (bytes text kept : List ℕ) (blob : Id20) (number : ℕ) → BlobsAgree a.entries → Compares a bytes text blob number → ReadsMessage a number (Ok kept) → (moment : ℕ) → delivered a bytes moment ≡ delivered_kept a text moment (unless_same text kept number)
+pub compares : (a : Archive) (bytes text kept : List ℕ) (blob : ObjectId) (number : ℕ) → BlobsAgree a.entries → Compares a bytes text blob number → ReadsMessage a number (Ok kept) → (moment : ℕ) → delivered a bytes moment ≡ delivered_kept a text moment (unless_same text kept number)
 compares a bytes text kept blob number agree decides reads moment = decides.decides agree kept (reads blob.0 decides.first) moment
 
 -- No other text has the blob id of one that is taken: no entry has it, or the first that has it has the
 -- same text.
-pub alone-new : (a : Archive) (index : Index) (text : List ℕ) (ids : TextIds) → IsArchiveIndex a.entries index → ids ≡ text_ids_of text → number_in index.blobs ids.blob.0 ≡ None → collision a.entries text ≡ None
+pub alone-new : (a : Archive) (index : Index) (text : List ℕ) (ids : TextIds) → IsArchiveIndex a.entries index → ids ≡ text_ids_of form.Sha1 text → number_in index.blobs ids.blob.0 ≡ None → collision a.entries text ≡ None
 alone-new a index text ids indexed ids_are none =
     collision-alone a.entries text
     (subst (λ (i : TextIds). blob_number a.entries i.blob.0 ≡ None) ids_are (sym (indexed.blobs ids.blob.0) ∙ none))
@@ -145,12 +146,12 @@ pub alone-final : (a : Archive) (config : Config) (index : Index) (next : ℕ) (
 alone-final a config index next (Take text ids number) indexed may = alone-new a index text ids indexed may.0.comes.ids_are may.1
 alone-final a config index next (Refuse reply) indexed may = tt
 
-pub alone-same : (a : Archive) (config : Config) (index : Index) (next : ℕ) (text kept : List ℕ) (ids : TextIds) (number : ℕ) (verdict : Verdict) → BlobsAgree a.entries → IsArchiveIndex a.entries index → ids ≡ text_ids_of text → number_in index.blobs ids.blob.0 ≡ Some number → ReadsMessage a number (Ok kept)
+pub alone-same : (a : Archive) (config : Config) (index : Index) (next : ℕ) (text kept : List ℕ) (ids : TextIds) (number : ℕ) (verdict : Verdict) → BlobsAgree a.entries → IsArchiveIndex a.entries index → ids ≡ text_ids_of form.Sha1 text → number_in index.blobs ids.blob.0 ≡ Some number → ReadsMessage a number (Ok kept)
     → TakesThis config next text ids verdict → TakesSame text kept verdict → IsAlone a verdict
 alone-same a config index next text kept ids number (Take taken named n) agree indexed ids_are known reads this same =
     let first : blob_number a.entries ids.blob.0 ≡ Some number = sym (indexed.blobs ids.blob.0) ∙ known in
-    let at_text : blob_number a.entries (blob_id_of text).0 ≡ Some number = subst (λ (i : TextIds). blob_number a.entries i.blob.0 ≡ Some number) ids_are first in
-    let read : blob_text a.entries (blob_id_of text).0 ≡ Some kept = reads (blob_id_of text).0 at_text in
+    let at_text : blob_number a.entries (blob_id_of form.Sha1 text).0 ≡ Some number = subst (λ (i : TextIds). blob_number a.entries i.blob.0 ≡ Some number) ids_are first in
+    let read : blob_text a.entries (blob_id_of form.Sha1 text).0 ≡ Some kept = reads (blob_id_of form.Sha1 text).0 at_text in
     let equal : bytes_eq text kept ≡ true = (bytes_eq-Decides text kept).1 (sym same) in
     subst (λ (t : List ℕ). collision a.entries t ≡ None) (sym this.0)
     (collision-first a.entries text kept number agree at_text read ∙ ap (λ (t : Bool). if t then None else Some number) equal)

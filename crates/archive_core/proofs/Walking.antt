@@ -2,6 +2,7 @@
 use Rattle.std.specs.Prelude.{◌≡◌, ◌<◌, ℕ, zero, suc, List, [], ◌∷◌, length, slice_get, Option, Some, None, Result, Ok, Err, IfErr, refl}
 use Rattle.std.proofs.Common.{◌∙◌, sym, ap, arith}
 use Rattle.std.proofs.lemmas.Option.{same_Some}
+use Rattle.arch_base.specs.declared.ids.Form.TheVariants as form
 use Rattle.disk_model.specs.Disk.{Content, WhereTold}
 use Rattle.git_objects.specs.Objects.{blob_id_of}
 use Rattle.arch_model.specs.Archives.{Entry, Archive}
@@ -54,7 +55,7 @@ sound-undamaged v k i s old new reading.DiskFault texts there given finds = tt
 sound-undamaged v k i s old new reading.NoMemory texts there given finds = tt
 sound-undamaged v k i s old new (reading.Damaged named found) texts there given finds =
     let here = texts i s there in
-    let same : found ≡ named = finds.2 ∙ ap blob_id_of (finds.1 here.long) ∙ here.blob ∙ sym given.1 in
+    let same : found ≡ named = finds.2 ∙ ap (blob_id_of form.Sha1) (finds.1 here.long) ∙ here.blob ∙ sym given.1 in
     given.2 same
 
 pub sound-if : (v : StoreState) (k : Option Content) (i : ℕ) (s : StoredEntry) (old new : List ℕ) (r : Result Unit TextRefusal) → IsSound v k → slice_get v.entries i ≡ Some s → GivesText s old new r → WhereTold (FindsText v.root s old new r) k → IfErr r IsUndamaged

@@ -6,7 +6,8 @@ use Rattle.std.proofs.Common.{◌∙◌, sym, ap, subst, inl, inr, arith}
 use Rattle.std.proofs.lemmas.Option.{slice_get_within, slice_get-get_or, same_Some}
 use Rattle.std.proofs.lemmas.Slice.Eq.{bytes_eq-Decides}
 use Rattle.arch_base.specs.declared.config.Config.{Config}
-use Rattle.arch_base.specs.declared.ids.Id20.{Id20}
+use Rattle.arch_base.specs.declared.ids.ObjectId.{ObjectId}
+use Rattle.arch_base.specs.declared.ids.Form.TheVariants as form
 use Rattle.mail_commits.specs.declared.ids.TextIds.{TextIds}
 use Rattle.disk_model.specs.Disk.{Content}
 use Rattle.git_objects.specs.Objects.{blob_id_of}
@@ -49,14 +50,14 @@ use Rattle.archive_core.proofs.Removing.{all_at}
 
 -- Each of some entries with the blob id of a text has that text.
 abbrev pub AgreesWith : List ℕ → List Entry → Type 0
-AgreesWith text es = AllByRecursion (λ (e : Entry). blob_id_of e.text ≡ blob_id_of text → e.text ≡ text) es
+AgreesWith text es = AllByRecursion (λ (e : Entry). blob_id_of form.Sha1 e.text ≡ blob_id_of form.Sha1 text → e.text ≡ text) es
 
 -- So it is of a text that one of them has.
 pub texts-agree : (es : List Entry) (text : List ℕ) → BlobsAgree es → HasText text es → AgreesWith text es
 texts-agree [] text agree has = tt
 texts-agree (e ∷ es) text agree (inl is) = (λ same. is, subst (λ (t : List ℕ). AgreesWith t es) is agree.0)
 texts-agree (e ∷ es) text agree (inr more) =
-    (λ same. sym (all-text (λ (t : List ℕ). blob_id_of t ≡ blob_id_of e.text → t ≡ e.text) es text agree.0 more (sym same)), texts-agree es text agree.1 more)
+    (λ same. sym (all-text (λ (t : List ℕ). blob_id_of form.Sha1 t ≡ blob_id_of form.Sha1 e.text → t ≡ e.text) es text agree.0 more (sym same)), texts-agree es text agree.1 more)
 
 messages_step : (k : EntryKind) (e : Entry) (es ms : List Entry) (text : List ℕ) → (HasText text ms → HasText text es) → HasText text (if is_message k then e ∷ ms else ms) → HasText text (e ∷ es)
 messages_step Message e es ms text rest (inl is) = inl is
@@ -74,19 +75,19 @@ pub live-message-is : (a : Archive) (n : ℕ) (text : List ℕ) → IsArchive a 
 live-message-is a n text valid shown = (live-one 1 0 a.entries n text valid.order shown).is
 
 -- Then the test of blob ids is the test of texts.
-tests_same : (text other : List ℕ) → (blob_id_of other ≡ blob_id_of text → other ≡ text) → bytes_eq (blob_id_of text).0 (blob_id_of other).0 ≡ bytes_eq text other
-tests_same text other agree = by (bytes_eq (blob_id_of text).0 (blob_id_of other).0) (bytes_eq text other) refl refl where
-  by : (t u : Bool) → bytes_eq (blob_id_of text).0 (blob_id_of other).0 ≡ t → bytes_eq text other ≡ u → t ≡ u
+tests_same : (text other : List ℕ) → (blob_id_of form.Sha1 other ≡ blob_id_of form.Sha1 text → other ≡ text) → bytes_eq (blob_id_of form.Sha1 text).0 (blob_id_of form.Sha1 other).0 ≡ bytes_eq text other
+tests_same text other agree = by (bytes_eq (blob_id_of form.Sha1 text).0 (blob_id_of form.Sha1 other).0) (bytes_eq text other) refl refl where
+  by : (t u : Bool) → bytes_eq (blob_id_of form.Sha1 text).0 (blob_id_of form.Sha1 other).0 ≡ t → bytes_eq text other ≡ u → t ≡ u
   by true true a b = refl
   by false false a b = refl
   by true false a b =
-      absurd (let ids : (blob_id_of text).0 ≡ (blob_id_of other).0 = (bytes_eq-Decides (blob_id_of text).0 (blob_id_of other).0).0 a in
-      let same : other ≡ text = agree (ap (λ (bytes : List ℕ). let id : Id20 = record { 0 = bytes } in id) (sym ids)) in
+      absurd (let ids : (blob_id_of form.Sha1 text).0 ≡ (blob_id_of form.Sha1 other).0 = (bytes_eq-Decides (blob_id_of form.Sha1 text).0 (blob_id_of form.Sha1 other).0).0 a in
+      let same : other ≡ text = agree (ap (λ (bytes : List ℕ). let id : ObjectId = record { 0 = bytes } in id) (sym ids)) in
       let hit : bytes_eq text other ≡ true = (bytes_eq-Decides text other).1 (sym same) in
       let wrong : true ≡ false = sym hit ∙ b in cc)
   by false true a b =
       absurd (let same : text ≡ other = (bytes_eq-Decides text other).0 b in
-      let hit : bytes_eq (blob_id_of text).0 (blob_id_of other).0 ≡ true = (bytes_eq-Decides (blob_id_of text).0 (blob_id_of other).0).1 (ap (λ (t : List ℕ). (blob_id_of t).0) same) in
+      let hit : bytes_eq (blob_id_of form.Sha1 text).0 (blob_id_of form.Sha1 other).0 ≡ true = (bytes_eq-Decides (blob_id_of form.Sha1 text).0 (blob_id_of form.Sha1 other).0).1 (ap (λ (t : List ℕ). (blob_id_of form.Sha1 t).0) same) in
       let wrong : true ≡ false = sym hit ∙ a in cc)
 
 -- The front entry stays, or it goes.
@@ -98,18 +99,18 @@ text-goes text e es same = ap (λ (t : Bool). if not t then e ∷ without_text e
 
 -- What is kept of the entries without a text is what is kept without its blob id, but for places and
 -- commits.
-pub stored-without : (before rest es : List Entry) (text : List ℕ) → AgreesWith text es → AllZip KeptOf (without_blob (stored_after before es) (blob_id_of text).0) (stored_after rest (without_text es text))
+pub stored-without : (before rest es : List Entry) (text : List ℕ) → AgreesWith text es → AllZip KeptOf (without_blob (stored_after before es) (blob_id_of form.Sha1 text).0) (stored_after rest (without_text es text))
 stored-without before rest [] text agree = tt
 stored-without before rest (e ∷ es) text agree = by (bytes_eq text e.text) refl (stored-without (before ++ e ∷ []) rest es text agree.1) (stored-without (before ++ e ∷ []) (rest ++ e ∷ []) es text agree.1) where
   blob : List ℕ
-  blob = (blob_id_of text).0
+  blob = (blob_id_of form.Sha1 text).0
 
   more : List StoredEntry
   more = stored_after (before ++ e ∷ []) es
 
-  by : (t : Bool) → bytes_eq text e.text ≡ t → AllZip KeptOf (without_blob (stored_after (before ++ e ∷ []) es) (blob_id_of text).0) (stored_after rest (without_text es text))
-      → AllZip KeptOf (without_blob (stored_after (before ++ e ∷ []) es) (blob_id_of text).0) (stored_after (rest ++ e ∷ []) (without_text es text))
-      → AllZip KeptOf (without_blob (stored_after before (e ∷ es)) (blob_id_of text).0) (stored_after rest (without_text (e ∷ es) text))
+  by : (t : Bool) → bytes_eq text e.text ≡ t → AllZip KeptOf (without_blob (stored_after (before ++ e ∷ []) es) (blob_id_of form.Sha1 text).0) (stored_after rest (without_text es text))
+      → AllZip KeptOf (without_blob (stored_after (before ++ e ∷ []) es) (blob_id_of form.Sha1 text).0) (stored_after (rest ++ e ∷ []) (without_text es text))
+      → AllZip KeptOf (without_blob (stored_after before (e ∷ es)) (blob_id_of form.Sha1 text).0) (stored_after rest (without_text (e ∷ es) text))
   by true same gone stays =
       subst (λ (l : List StoredEntry). AllZip KeptOf l (stored_after rest (without_text (e ∷ es) text))) (sym (first-goes blob (stored_at before e) more (tests_same text e.text agree.0 ∙ same)))
       (subst (λ (l : List Entry). AllZip KeptOf (without_blob more blob) (stored_after rest l)) (sym (text-goes text e es same)) gone)
@@ -119,15 +120,15 @@ stored-without before rest (e ∷ es) text agree = by (bytes_eq text e.text) ref
       (record { number = refl; epoch = refl; kind = refl; size = refl; blob = refl; moment = refl; id = refl; content = refl }, stays))
 
 -- The index of what is kept without a blob id is that of the archive without the text.
-pub index-without : (v : StoreState) (a : Archive) (index : Index) (blob : Id20) (text : List ℕ) → KeepsArchive v a → AgreesWith text a.entries → blob_id_of text ≡ blob → IndexesKept (without_blob v.entries blob.0) index → IsArchiveIndex (without_entries a text).entries index
+pub index-without : (v : StoreState) (a : Archive) (index : Index) (blob : ObjectId) (text : List ℕ) → KeepsArchive v a → AgreesWith text a.entries → blob_id_of form.Sha1 text ≡ blob → IndexesKept (without_blob v.entries blob.0) index → IsArchiveIndex (without_entries a text).entries index
 index-without v a index blob text keeps agree blob_is indexed =
     indexed (stored_after [] (without_text a.entries text))
-    (subst (λ (i : Id20). AllZip KeptOf (without_blob v.entries i.0) (stored_after [] (without_text a.entries text))) blob_is
-    (subst (λ (l : List StoredEntry). AllZip KeptOf (without_blob l (blob_id_of text).0) (stored_after [] (without_text a.entries text))) (sym keeps.kept) (stored-without [] [] a.entries text agree)))
+    (subst (λ (i : ObjectId). AllZip KeptOf (without_blob v.entries i.0) (stored_after [] (without_text a.entries text))) blob_is
+    (subst (λ (l : List StoredEntry). AllZip KeptOf (without_blob l (blob_id_of form.Sha1 text).0) (stored_after [] (without_text a.entries text))) (sym keeps.kept) (stored-without [] [] a.entries text agree)))
     (without_text a.entries text) (record { ordered = in-order (without_entries a text) (valid_without a text keeps.valid); is = refl })
 
 -- The blob id of a message that may be purged is that of its text.
-pub purge-blob : (v : StoreState) (a : Archive) (n : ℕ) (blob : Id20) (text : List ℕ) → KeepsArchive v a → MayPurge v n blob → text_of (messages a.entries) n ≡ Some text → blob_id_of text ≡ blob
+pub purge-blob : (v : StoreState) (a : Archive) (n : ℕ) (blob : ObjectId) (text : List ℕ) → KeepsArchive v a → MayPurge v n blob → text_of (messages a.entries) n ≡ Some text → blob_id_of form.Sha1 text ≡ blob
 purge-blob v a n blob text keeps may is =
     let at : IsMessageAt v.entries n may.is_there.0 = record {
       entry = may.entry;
@@ -136,20 +137,20 @@ purge-blob v a n blob text keeps may is =
       is_one = ap is_message may.kind;
     } in
     let own = message-of v a n may.is_there.0 keeps at in
-    ap blob_id_of (same_Some text own.entry.text (sym is ∙ own.once)) ∙ sym own.blob ∙ may.blob_is
+    ap (blob_id_of form.Sha1) (same_Some text own.entry.text (sym is ∙ own.once)) ∙ sym own.blob ∙ may.blob_is
   where
     get_is : (es : List StoredEntry) (i : ℕ) (e : StoredEntry) → i < length es → slice_index_or es i e ≡ e → get_or es i e ≡ e
     get_is es i e less is = is
 
 -- The live number whose entry has the blob id of a text is the one with the text.
-pub lost-live : (v : StoreState) (a : Archive) (places : List MessagePlace) (lost : Option ℕ) (blob : Id20) (text : List ℕ) → KeepsArchive v a → places ≡ message_places 0 v.entries → AgreesWith text a.entries → blob_id_of text ≡ blob → IsLiveWith places v.entries blob lost → IsLiveOf (live a.entries) text lost
+pub lost-live : (v : StoreState) (a : Archive) (places : List MessagePlace) (lost : Option ℕ) (blob : ObjectId) (text : List ℕ) → KeepsArchive v a → places ≡ message_places 0 v.entries → AgreesWith text a.entries → blob_id_of form.Sha1 text ≡ blob → IsLiveWith places v.entries blob lost → IsLiveOf (live a.entries) text lost
 lost-live v a places (Some n) blob text keeps placed agree blob_is found =
     let at : IsLiveAt v.entries n found.1.entry = live-found v places placed found.0 n found.1 found.2 found.3 found.4 in
     let own = message-of v a n found.1.entry keeps at.message in
     let hit : bytes_eq blob.0 at.message.entry.seen.blob.0 ≡ true = sym (ap (λ (o : Option StoredEntry). found_blob o blob) at.message.there) ∙ found.5 in
     let ids : blob.0 ≡ at.message.entry.seen.blob.0 = (bytes_eq-Decides blob.0 at.message.entry.seen.blob.0).0 hit in
-    let same : blob_id_of own.entry.text ≡ blob_id_of text = sym own.blob ∙ ap (λ (bytes : List ℕ). let id : Id20 = record { 0 = bytes } in id) (sym ids) ∙ sym blob_is in
-    let is : own.entry.text ≡ text = all_at (λ (e : Entry). blob_id_of e.text ≡ blob_id_of text → e.text ≡ text) a.entries found.1.entry own.entry agree own.there same in
+    let same : blob_id_of form.Sha1 own.entry.text ≡ blob_id_of form.Sha1 text = sym own.blob ∙ ap (λ (bytes : List ℕ). let id : ObjectId = record { 0 = bytes } in id) (sym ids) ∙ sym blob_is in
+    let is : own.entry.text ≡ text = all_at (λ (e : Entry). blob_id_of form.Sha1 e.text ≡ blob_id_of form.Sha1 text → e.text ≡ text) a.entries found.1.entry own.entry agree own.there same in
     entry-text v a keeps n found.1.entry at own.entry.text (ap text_if own.there) ∙ ap Some is
 lost-live v a places None blob text keeps placed agree blob_is none = λ n shown.
     let is_live = live-at places n (live-shown v places placed a keeps n ∙ ap is_some shown) in
@@ -157,7 +158,7 @@ lost-live v a places None blob text keeps placed agree blob_is none = λ n shown
     let own = message-of v a n is_live.place.entry keeps at.message in
     let read : text_of (live a.entries) n ≡ Some own.entry.text = entry-text v a keeps n is_live.place.entry at own.entry.text (ap text_if own.there) in
     let same : own.entry.text ≡ text = same_Some own.entry.text text (sym read ∙ shown) in
-    let ids : blob.0 ≡ at.message.entry.seen.blob.0 = ap (λ (i : Id20). i.0) (sym blob_is ∙ ap blob_id_of (sym same) ∙ sym own.blob) in
+    let ids : blob.0 ≡ at.message.entry.seen.blob.0 = ap (λ (i : ObjectId). i.0) (sym blob_is ∙ ap (blob_id_of form.Sha1) (sym same) ∙ sym own.blob) in
     let hit : has_blob_at v.entries is_live.place.entry blob ≡ true = ap (λ (o : Option StoredEntry). found_blob o blob) at.message.there ∙ (bytes_eq-Decides blob.0 at.message.entry.seen.blob.0).1 ids in
     let wrong : true ≡ false = sym hit ∙ none is_live.index is_live.place is_live.there is_live.live_is in
     cc
@@ -168,11 +169,11 @@ purged_by a n found writable is =
     ap (λ (t : Bool). if t then refused a answer.IsMirror else purged_text a n (text_of (messages a.entries) n)) writable
     ∙ ap (purged_text a n) is
 
-pub purged-text-is : (a : Archive) (n : ℕ) (text : List ℕ) → a.config.mirror ≡ false → text_of (messages a.entries) n ≡ Some text → purged a n ≡ record { archive = without_entries a text; answer = answer.Ok n (blob_id_of text) }
+pub purged-text-is : (a : Archive) (n : ℕ) (text : List ℕ) → a.config.mirror ≡ false → text_of (messages a.entries) n ≡ Some text → purged a n ≡ record { archive = without_entries a text; answer = answer.Ok n (blob_id_of form.Sha1 text) }
 purged-text-is a n text writable is = purged_by a n (Some text) writable is
 
 -- What was done on another archive, and accepted, is what is done.
-pub unless-taken : (a b : Archive) (d : Done) (n : ℕ) (id : Id20) → d ≡ record { archive = b; answer = answer.Ok n id } → unless_refused a d ≡ record { archive = b; answer = answer.Ok n id }
+pub unless-taken : (a b : Archive) (d : Done) (n : ℕ) (id : ObjectId) → d ≡ record { archive = b; answer = answer.Ok n id } → unless_refused a d ≡ record { archive = b; answer = answer.Ok n id }
 unless-taken a b d n id is = ap (unless_refused a) is
 
 -- A refusal there is one here.
@@ -240,13 +241,13 @@ known-left v a config index next (Some text) keeps config_is next_is indexed = r
 }
 
 -- No entry has the blob id of a text without which all with that blob id are gone.
-none_left : (es : List Entry) (text blob : List ℕ) → blob ≡ (blob_id_of text).0 → AgreesWith text es → blob_number (without_text es text) blob ≡ None
+none_left : (es : List Entry) (text blob : List ℕ) → blob ≡ (blob_id_of form.Sha1 text).0 → AgreesWith text es → blob_number (without_text es text) blob ≡ None
 none_left [] text blob is agree = refl
 none_left (e ∷ es) text blob is agree = by (bytes_eq text e.text) refl (none_left es text blob is agree.1) where
   by : (t : Bool) → bytes_eq text e.text ≡ t → blob_number (without_text es text) blob ≡ None → blob_number (without_text (e ∷ es) text) blob ≡ None
   by true same rest = ap (λ (l : List Entry). blob_number l blob) (text-goes text e es same) ∙ rest
   by false other rest =
-      let miss : bytes_eq blob (blob_id_of e.text).0 ≡ false = ap (λ (b : List ℕ). bytes_eq b (blob_id_of e.text).0) is ∙ tests_same text e.text agree.0 ∙ other in
+      let miss : bytes_eq blob (blob_id_of form.Sha1 e.text).0 ≡ false = ap (λ (b : List ℕ). bytes_eq b (blob_id_of form.Sha1 e.text).0) is ∙ tests_same text e.text agree.0 ∙ other in
       ap (λ (l : List Entry). blob_number l blob) (text-stays text e es other)
       ∙ ap (λ (t : Bool). if t then Some e.number else blob_number (without_text es text) blob) miss
       ∙ rest
@@ -257,11 +258,11 @@ StaysFirst es text blob n = (blob_number es blob ≡ Some n) × (blob_text es bl
 
 first_still : (es : List Entry) (text blob : List ℕ) (n : ℕ) → BlobsAgree es → blob_number (without_text es text) blob ≡ Some n → StaysFirst es text blob n
 first_still [] text blob n agree is = absurd (cc)
-first_still (e ∷ es) text blob n agree is = by (bytes_eq text e.text) (bytes_eq blob (blob_id_of e.text).0) refl refl (first_still es text blob n agree.1) where
-  by : (t u : Bool) → bytes_eq text e.text ≡ t → bytes_eq blob (blob_id_of e.text).0 ≡ u → (blob_number (without_text es text) blob ≡ Some n → StaysFirst es text blob n) → StaysFirst (e ∷ es) text blob n
+first_still (e ∷ es) text blob n agree is = by (bytes_eq text e.text) (bytes_eq blob (blob_id_of form.Sha1 e.text).0) refl refl (first_still es text blob n agree.1) where
+  by : (t u : Bool) → bytes_eq text e.text ≡ t → bytes_eq blob (blob_id_of form.Sha1 e.text).0 ≡ u → (blob_number (without_text es text) blob ≡ Some n → StaysFirst es text blob n) → StaysFirst (e ∷ es) text blob n
   by true true same hit rest =
       let is_text : text ≡ e.text = (bytes_eq-Decides text e.text).0 same in
-      let its : blob ≡ (blob_id_of text).0 = (bytes_eq-Decides blob (blob_id_of e.text).0).0 hit ∙ ap (λ (t : List ℕ). (blob_id_of t).0) (sym is_text) in
+      let its : blob ≡ (blob_id_of form.Sha1 text).0 = (bytes_eq-Decides blob (blob_id_of form.Sha1 e.text).0).0 hit ∙ ap (λ (t : List ℕ). (blob_id_of form.Sha1 t).0) (sym is_text) in
       let none : blob_number (without_text es text) blob ≡ None = none_left es text blob its (subst (λ (t : List ℕ). AgreesWith t es) (sym is_text) agree.0) in
       let found : blob_number (without_text es text) blob ≡ Some n = sym (ap (λ (l : List Entry). blob_number l blob) (text-goes text e es same)) ∙ is in
       absurd (let wrong : None ≡ Some n = sym none ∙ found in cc)
@@ -310,7 +311,7 @@ id_of : (o : Option (List ℕ)) → IsSome o → o ≡ Some (unwrap_or o [])
 id_of None some = absurd (let wrong : false ≡ true = some in cc)
 id_of (Some id) some = refl
 
-pub may-replace : (v : StoreState) (index : Index) (old : Id20) (ids : TextIds) (n number : ℕ) (text : List ℕ) → MayPurge v n old → IndexesKept (without_blob v.entries old.0) index → MayBeKept v.root.config index v.root.next text ids number → MayReplace v old text ids
+pub may-replace : (v : StoreState) (index : Index) (old : ObjectId) (ids : TextIds) (n number : ℕ) (text : List ℕ) → MayPurge v n old → IndexesKept (without_blob v.entries old.0) index → MayBeKept v.root.config index v.root.next text ids number → MayReplace v old text ids
 may-replace v index old ids n number text purge indexed kept = record {
   number = n;
   edit = record {
@@ -346,7 +347,7 @@ pub writable-of : (v : StoreState) (a : Archive) → KeepsArchive v a → v.root
 writable-of v a keeps writable = ap (λ (c : Config). c.mirror) (sym keeps.names.config) ∙ writable
 
 -- The text of the message at an index, by its number and its blob id.
-pub purge-at : (v : StoreState) (a : Archive) (n i : ℕ) (s : StoredEntry) → KeepsArchive v a → IsMessageAt v.entries n i → slice_get v.entries i ≡ Some s → (text : List ℕ) × (text_of (messages a.entries) n ≡ Some text) × (blob_id_of text ≡ s.seen.blob)
+pub purge-at : (v : StoreState) (a : Archive) (n i : ℕ) (s : StoredEntry) → KeepsArchive v a → IsMessageAt v.entries n i → slice_get v.entries i ≡ Some s → (text : List ℕ) × (text_of (messages a.entries) n ≡ Some text) × (blob_id_of form.Sha1 text ≡ s.seen.blob)
 purge-at v a n i s keeps at there =
     let own = message-of v a n i keeps at in
     let same : at.entry ≡ s = (let both : Some at.entry ≡ Some s = sym at.there ∙ there in cc) in
@@ -382,13 +383,13 @@ shown-text es n is = by (text_of es n) refl where
   by (Some text) some = (text, some)
 
 -- What the purge of a message makes.
-pub purge-makes : (v : StoreState) (a : Archive) (n : ℕ) (blob : Id20) → KeepsArchive v a → MayPurge v n blob → is_some (text_of (messages a.entries) n) ≡ true → Drops blob a (purged a n).archive × ((purged a n).answer ≡ answer.Ok n blob)
+pub purge-makes : (v : StoreState) (a : Archive) (n : ℕ) (blob : ObjectId) → KeepsArchive v a → MayPurge v n blob → is_some (text_of (messages a.entries) n) ≡ true → Drops blob a (purged a n).archive × ((purged a n).answer ≡ answer.Ok n blob)
 purge-makes v a n blob keeps may some =
     let text = shown-text (messages a.entries) n some in
     let named = purge-blob v a n blob text.0 keeps may text.1 in
     let is = purged-text-is a n text.0 (writable-of v a keeps may.writable) text.1 in (
       record { number = n; text = text.0; shown = text.1; blob_is = named; is = ap (λ (d : Done). d.archive) is },
-      ap (λ (d : Done). d.answer) is ∙ ap (λ (id : Id20). answer.Ok n id) named,
+      ap (λ (d : Done). d.answer) is ∙ ap (λ (id : ObjectId). answer.Ok n id) named,
     )
 
 -- What an edit makes whose message isn't the same.

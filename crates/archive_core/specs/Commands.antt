@@ -2,6 +2,7 @@
 use Rattle.std.specs.Prelude.{◌≡◌, ◌+◌, ◌-◌, ◌<◌, ◌^◌, ℕ, Bool, true, false, List, slice_get, Option, Some, None, Result, Ok, Err}
 use Rattle.std.specs.List.{Contains}
 use Rattle.arch_base.specs.Counts.{RoseIf}
+use Rattle.arch_base.specs.declared.ids.Form.TheVariants as form
 use Rattle.disk_model.specs.declared.disk.Disk.{Ghosts as Disk}
 use Rattle.disk_model.specs.Disk.{Content, WhereTold, BothTold, Unchanged, Image}
 use Rattle.disk_model.specs.Moments.{LeavesOnly}
@@ -310,7 +311,7 @@ IfRemoval false P = P
 -- The text of a delivery that was accepted is a storage text, and the answer has its blob id. Its
 -- content id comes with it.
 abbrev pub TellsText : Answer → KeptText → Type 0
-TellsText (answer.Ok number id) kept = IsStorageText kept.text × (id ≡ blob_id_of kept.text)
+TellsText (answer.Ok number id) kept = IsStorageText kept.text × (id ≡ blob_id_of form.Sha1 kept.text)
     × (kept.content ≡ content_id_of kept.text)
 TellsText other kept = Unit {0}
 

@@ -4,7 +4,8 @@ use Rattle.std.specs.Prelude.{◌≡◌, ℕ, List, Option, Some, None}
 use Rattle.std.specs.List.{AllZip}
 use Rattle.mail_commits.specs.declared.ids.TextIds.{TextIds}
 use Rattle.mail_commits.specs.Ids.{text_ids_of}
-use Rattle.arch_base.specs.declared.ids.Id20.{Id20}
+use Rattle.arch_base.specs.declared.ids.ObjectId.{ObjectId}
+use Rattle.arch_base.specs.declared.ids.Form.TheVariants as form
 use Rattle.mail_reader.specs.Content.{content_id_of}
 use Rattle.mail_reader.specs.Ids.{own_id}
 use Rattle.arch_model.specs.Archives.{Entry, live, IsFree}
@@ -26,13 +27,13 @@ IndexesKept entries index = (kept : List StoredEntry) → AllZip KeptOf entries 
     → IndexesStored kept index
 
 -- A text's own id and its blob id were put into an index.
-abbrev pub PutsText : Index → Index → List ℕ → Id20 → ℕ → Type 0
+abbrev pub PutsText : Index → Index → List ℕ → ObjectId → ℕ → Type 0
 PutsText old new text blob number = (id : List ℕ) → own_id text ≡ Some id
     → IndexPuts old new id blob (record { number = number; content = content_id_of text })
 
 -- An index has the same as before a text with a new own id was put into it. Its blob id had this
 -- number there before, or none.
-abbrev pub TakesBackText : Index → Index → List ℕ → Id20 → ℕ → Option ℕ → Type 0
+abbrev pub TakesBackText : Index → Index → List ℕ → ObjectId → ℕ → Option ℕ → Type 0
 TakesBackText put new text blob number older = (old : Index) (id : List ℕ) → own_id text ≡ Some id
     → IndexPuts old put id blob (record { number = number; content = content_id_of text })
     → owner_in old.owners id ≡ None → number_in old.blobs blob.0 ≡ older → HasSame old new
@@ -49,7 +50,7 @@ IsNewTo kept text = (entries : List Entry) → AreOf kept entries → IsFree (li
 pub record MayGoIn (v : StoreState) (text : List ℕ) (ids : TextIds) : Type 0 where
   pub accepts : Accepts v text
   pub new_id : IsNewTo v.entries text
-  pub ids_are : ids ≡ text_ids_of text
+  pub ids_are : ids ≡ text_ids_of form.Sha1 text
 
 -- A text that is taken by an index may be kept. A refusal is an answer to a delivery, or tells of a
 -- read that failed.

@@ -3,7 +3,7 @@ use Rattle.std.specs.Prelude.{◌≡◌, ◌≢◌, ℕ, Bool, true, false, ◌=
 use Rattle.std.specs.List.{list_any, Contains}
 use Rattle.arch_model.specs.declared.text_refusal.TextRefusal.{TextRefusal}
 use Rattle.arch_model.specs.declared.text_refusal.TextRefusal.TheVariants as reading
-use Rattle.arch_base.specs.declared.ids.Id20.{Id20}
+use Rattle.arch_base.specs.declared.ids.ObjectId.{ObjectId}
 use Rattle.disk_model.specs.Disk.{Content, WhereTold}
 use Rattle.arch_model.specs.Archives.{Entry, is_message}
 use Rattle.arch_model.specs.Shelves.{blob_text}
@@ -33,7 +33,7 @@ pub record IsLiveAt (entries : List StoredEntry) (n index : ℕ) : Type 0 where
   pub is_live : Contains (live_kept entries) message.entry
 
 -- The entry at this index has this blob id.
-abbrev pub HasBlobAt : List StoredEntry → Id20 → ℕ → Type 0
+abbrev pub HasBlobAt : List StoredEntry → ObjectId → ℕ → Type 0
 HasBlobAt entries id index = (e : StoredEntry) × (slice_get entries index ≡ Some e)
     × (e.seen.blob ≡ id)
 
@@ -48,7 +48,7 @@ TellsOther (Err (reading.Damaged named found)) = found ≢ named
 TellsOther other = Unit {0}
 
 -- If bytes with another id were found, this id is the one that is named.
-abbrev pub NamesId : {T : Type 0} → Id20 → Result T TextRefusal → Type 0
+abbrev pub NamesId : {T : Type 0} → ObjectId → Result T TextRefusal → Type 0
 NamesId id (Err (reading.Damaged named found)) = named ≡ id
 NamesId id other = Unit {0}
 
@@ -71,7 +71,7 @@ GivesTextKept v content n old new result =
     GivesKept (λ (e : StoredEntry). e.number ≡ n) v content old new result
 
 -- The same for an entry with a blob id, if there is one.
-abbrev pub GivesBlobKept : StoreState → Option Content → Id20 → List ℕ → List ℕ → Result Bool TextRefusal
+abbrev pub GivesBlobKept : StoreState → Option Content → ObjectId → List ℕ → List ℕ → Result Bool TextRefusal
     → Type 0
 GivesBlobKept v content id old new (Ok true) =
     GivesKept (λ (e : StoredEntry). e.seen.blob ≡ id) v content old new (Ok tt)

@@ -2,7 +2,7 @@
 use Rattle.std.specs.Prelude.{◌≡◌, ◌≢◌, ◌+◌, ◌≤◌, ◌==◌, ◌&&◌, ◌||◌, ℕ, Bool, true, false, not, List, [], ◌∷◌, ◌++◌, slice_get, Option, Some, None, if◌then◌else◌}
 use Rattle.std.specs.List.{list_any}
 use Rattle.std.specs.Str.{bytes_eq}
-use Rattle.arch_base.specs.declared.ids.Id20.{Id20}
+use Rattle.arch_base.specs.declared.ids.ObjectId.{ObjectId}
 use Rattle.std.specs.Ordering.{nat_cmp}
 use Rattle.std.specs.BTreeSet.{BTreeSet, contains}
 use Rattle.git_objects.specs.declared.entry_kind.EntryKind.{EntryKind}
@@ -79,16 +79,16 @@ IsPlaceOfNumber places number None = PlacesRise places
     → (index : ℕ) (p : MessagePlace) → slice_get places index ≡ Some p → p.number ≢ number
 
 -- An entry, if there is one, has a blob id.
-abbrev pub found_blob : Option StoredEntry → Id20 → Bool
+abbrev pub found_blob : Option StoredEntry → ObjectId → Bool
 found_blob None blob = false
 found_blob (Some e) blob = bytes_eq blob.0 e.seen.blob.0
 
 -- The entry at an index has a blob id.
-abbrev pub has_blob_at : List StoredEntry → ℕ → Id20 → Bool
+abbrev pub has_blob_at : List StoredEntry → ℕ → ObjectId → Bool
 has_blob_at entries index blob = found_blob (slice_get entries index) blob
 
 -- The number of a live place whose entry has a blob id, or none has.
-abbrev pub IsLiveWith : List MessagePlace → List StoredEntry → Id20 → Option ℕ → Type 0
+abbrev pub IsLiveWith : List MessagePlace → List StoredEntry → ObjectId → Option ℕ → Type 0
 IsLiveWith places entries blob None = (i : ℕ) (p : MessagePlace) → slice_get places i ≡ Some p
     → p.live ≡ true → has_blob_at entries p.entry blob ≡ false
 IsLiveWith places entries blob (Some number) = (i : ℕ) × (p : MessagePlace)

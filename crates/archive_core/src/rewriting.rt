@@ -3,6 +3,7 @@
 ghost use Rattle.std.specs.Prelude.{Some, None, ◌≡◌, ◌≤◌, ℕ, Ok, Err, IfErr, IfOk, OnOk, List};
 ghost use Rattle.arch_base.specs.Counts.{RoseIf};
 ghost use Rattle.arch_base.specs.Moments.{last_moment};
+ghost use Rattle.arch_base.specs.declared.ids.Form.TheVariants as form;
 ghost use Rattle.disk_model.specs.Disk.{WhereTold};
 ghost use Rattle.mail_reader.specs.Stored.{stored as stored_of};
 ghost use Rattle.git_objects.specs.Objects.{blob_id_of};
@@ -82,7 +83,7 @@ impl DiskArchive {
             self.old self.new Renews (Drops blob.now) (bare result) }
         ensures kept_files { OnOk result (KeepsFiles self.old self.new blob.now) }
         ensures lives { (number : ℕ) (a : Archive) (text : List ℕ) → KeepsArchive self.old a
-            → text_of (messages a.entries) number ≡ Some text → blob_id_of text ≡ blob.now
+            → text_of (messages a.entries) number ≡ Some text → blob_id_of form.Sha1 text ≡ blob.now
             → IfOk result (IsLiveOf (live a.entries) text) }
     {
         let Ok(index) = index_without(self.alloc, self.store.stored(), blob) else {

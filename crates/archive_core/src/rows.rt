@@ -1,6 +1,7 @@
 //! The rows, threads and words of live messages, as commands change them.
 //! Allocates.
 ghost use Rattle.std.specs.Prelude.{◌≡◌, true, is_ok, OnOk, OnErr};
+ghost use Rattle.arch_base.specs.declared.ids.Form.TheVariants as form;
 ghost use Rattle.git_objects.specs.Objects.{blob_id_of};
 ghost use Rattle.mail_reader.specs.Content.{content_id_of};
 ghost use Rattle.mail_reader.specs.StorageTexts.{IsStorageText};
@@ -69,7 +70,7 @@ fn add_kept(
     moment: u64,
 ) -> Result<(), NoMemory>
     requires text { IsStorageText kept.now.text }
-    requires blob { blob.now ≡ blob_id_of kept.now.text }
+    requires blob { blob.now ≡ blob_id_of form.Sha1 kept.now.text }
     requires content { kept.now.content ≡ content_id_of kept.now.text }
     ensures ok { OnOk result (views.new ≡ with_mail views.old
         (row_of number kept.now.text moment) (mail_words kept.now.text)) }

@@ -1,7 +1,7 @@
 -- What an edit gives.
 use Rattle.std.proofs.Common.{◌≡◌, ◌≢◌, ◌+◌, ◌==◌, ℕ, Bool, true, false, List, [], ◌∷◌, ◌++◌, Some, None, if◌then◌else◌, refl, ap, ◌∙◌, sym, subst, arith}
 use Rattle.std.proofs.lemmas.Bool.Decides.{nat_tests}
-use Rattle.arch_base.specs.declared.ids.Id20.{Id20}
+use Rattle.arch_base.specs.declared.ids.ObjectId.{ObjectId}
 use Rattle.arch_model.specs.Archives.{Entry, Archive, message, live, text_of, without_entries}
 use Rattle.arch_model.specs.Delivery.{Done, delivered, new_epoch}
 use Rattle.arch_model.specs.Validity.{IsArchive}
@@ -33,7 +33,7 @@ record Adds (a : Archive) (n : ℕ) (b : Archive) : Type 0 where
   next : b.next ≡ a.next + 1
   old : (m : ℕ) (text : List ℕ) → m ≢ n → text_of (live b.entries) m ≡ Some text → text_of (live a.entries) m ≡ Some text
 
-adds_by : (a : Archive) (bytes : List ℕ) (moment n : ℕ) (id : Id20) (d : Done) → Comes a bytes moment d → d.answer ≡ named.Ok n id → Adds a n d.archive
+adds_by : (a : Archive) (bytes : List ℕ) (moment n : ℕ) (id : ObjectId) (d : Done) → Comes a bytes moment d → d.answer ≡ named.Ok n id → Adds a n d.archive
 adds_by a bytes moment n id d (Comes.Refused answer other) e = absurd (other n id e)
 adds_by a bytes moment n id d (Comes.Accepted form kept is takes alone room) e =
     let same : a.next ≡ n = cc in
@@ -45,7 +45,7 @@ adds_by a bytes moment n id d (Comes.Accepted form kept is takes alone room) e =
     }
 
 -- A delivery on the archive without a text that was accepted exchanges the text.
-pub exchanges : (a : Archive) (bytes text kept : List ℕ) (moment n : ℕ) (id : Id20) → IsArchive a → (delivered (without_entries a text) bytes moment).answer ≡ named.Ok n id
+pub exchanges : (a : Archive) (bytes text kept : List ℕ) (moment n : ℕ) (id : ObjectId) → IsArchive a → (delivered (without_entries a text) bytes moment).answer ≡ named.Ok n id
     → text_of (live (delivered (without_entries a text) bytes moment).archive.entries) n ≡ Some kept → Exchanges a text kept n (delivered (without_entries a text) bytes moment).archive
 exchanges a bytes text kept moment n id valid ok new =
     let rest = without_entries a text in

@@ -1,6 +1,6 @@
 -- What an edit gives, in terms of numbers and of the messages that are shown.
 use Rattle.std.specs.Prelude.{◌≡◌, ◌≢◌, ◌+◌, ℕ, List, Some, Ok}
-use Rattle.arch_base.specs.declared.ids.Id20.{Id20}
+use Rattle.arch_base.specs.declared.ids.ObjectId.{ObjectId}
 use Rattle.mail_reader.specs.Stored.{stored}
 use Rattle.arch_model.specs.Archives.{Archive, without_entries, live, text_of}
 use Rattle.arch_model.specs.Candidates.{choice_of}
@@ -22,7 +22,7 @@ pub record Exchanges (a : Archive) (text kept : List ℕ) (n : ℕ) (b : Archive
 -- An accepted edit of a number in a valid archive exchanges the text that the number shows for the
 -- message, as it is kept in the archive without the text.
 abbrev pub ExchangesOneText : Type 0
-ExchangesOneText = (a : Archive) (number n moment : ℕ) (bytes : List ℕ) (id : Id20) → IsArchive a
+ExchangesOneText = (a : Archive) (number n moment : ℕ) (bytes : List ℕ) (id : ObjectId) → IsArchive a
     → (edited a number bytes moment).answer ≡ answer.Ok n id
     → (text form kept : List ℕ) × (text_of (live a.entries) number ≡ Some text)
     × (stored bytes ≡ Ok form) × (choice_of (without_entries a text) form ≡ Take kept)

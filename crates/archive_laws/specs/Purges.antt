@@ -1,6 +1,6 @@
 -- What a purge leaves of an archive, in terms of single entries and of numbers.
 use Rattle.std.specs.Prelude.{◌≡◌, ◌≢◌, ◌⊎◌, ℕ, List, [], ◌∷◌, Some}
-use Rattle.arch_base.specs.declared.ids.Id20.{Id20}
+use Rattle.arch_base.specs.declared.ids.ObjectId.{ObjectId}
 use Rattle.arch_model.specs.Archives.{Entry, Archive, live, messages, text_of}
 use Rattle.arch_model.specs.Delivery.{purged}
 use Rattle.arch_model.specs.Validity.{IsArchive}
@@ -32,7 +32,7 @@ pub record IsWithoutText (a : Archive) (text : List ℕ) (b : Archive) : Type 0 
 
 -- An accepted purge on a valid archive leaves it without the text that its number was delivered with.
 abbrev pub DropsOneText : Type 0
-DropsOneText = (a : Archive) (number n : ℕ) (id : Id20) → IsArchive a
+DropsOneText = (a : Archive) (number n : ℕ) (id : ObjectId) → IsArchive a
     → (purged a number).answer ≡ answer.Ok n id
     → (text : List ℕ) × (text_of (messages a.entries) number ≡ Some text)
     × IsWithoutText a text (purged a number).archive

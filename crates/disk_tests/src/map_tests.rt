@@ -1,6 +1,6 @@
 //! Maps on a disk in memory: their bytes, what is read of them, and where they are damaged.
 use crate::file_names::M;
-use arch_base::{Id20, Numbers};
+use arch_base::{ObjectId, Numbers};
 use disk_model::{Disk, DiskFault, FuseDisk, MemDisk, WalkRefusal};
 use number_map::{Record, Records, append, law_of_records, walk};
 use std::alloc::Global;
@@ -12,17 +12,17 @@ const LINES: [Record; 3] = [
     Record {
         number: 1,
         epoch: 0,
-        blob: Id20(*b"abcdefghijklmnopqrst"),
+        blob: ObjectId(*b"abcdefghijklmnopqrst"),
     },
     Record {
         number: 2,
         epoch: 4_294_967_295,
-        blob: Id20([0; 20]),
+        blob: ObjectId([0; 20]),
     },
     Record {
         number: 3,
         epoch: 63,
-        blob: Id20(*b"ABCDEFGHIJKLMNOPQRST"),
+        blob: ObjectId(*b"ABCDEFGHIJKLMNOPQRST"),
     },
 ];
 
@@ -255,7 +255,7 @@ fn a_map_cut_short_is_damaged_at_its_last_record(rt: HostRuntime) -> Result<(), 
 
 /// Puts so many records onto a disk.
 fn put_many<D: Disk>(disk: &mut D, count: u32) -> Result<(), DiskFault> {
-    let blob = Id20(*b"abcdefghijklmnopqrst");
+    let blob = ObjectId(*b"abcdefghijklmnopqrst");
     for before in 0..count {
         let number = before.saturating_add(1);
         let line = Record {

@@ -6,7 +6,7 @@ use Rattle.std.proofs.Common.{◌∙◌, sym, ap, subst, arith}
 use Rattle.std.proofs.lemmas.Bool.Decides.{nat_tests}
 use Rattle.std.proofs.lemmas.Option.{same_Some}
 use Rattle.std.proofs.lemmas.Result.{on_ok_weaker}
-use Rattle.arch_base.specs.declared.ids.Id20.{Id20}
+use Rattle.arch_base.specs.declared.ids.ObjectId.{ObjectId}
 use Rattle.arch_base.specs.Moments.{last_moment}
 use Rattle.disk_model.specs.declared.disk.Disk.{Ghosts as Disk}
 use Rattle.disk_model.specs.Disk.{Content, Kept, BothTold, Unchanged, WhereTold, bytes_of}
@@ -98,7 +98,7 @@ kept_low [] (f ∷ fs) blob low all = absurd all
 kept_low (e ∷ es) fs blob low all = low_step (not (bytes_eq blob e.seen.blob.0)) e (without_blob es blob) fs (first_low e es low) (λ gs more. kept_low es gs blob (rest_low e es low) more) all
 
 -- What is kept after a purge.
-pub purge_drops : (v new : StoreState) (blob : Id20) (p : Planning) → PlansPurge v blob p.entries p.plans → KeepsPlanned v p v.root.next new → DropsEntries v new blob
+pub purge_drops : (v new : StoreState) (blob : ObjectId) (p : Planning) → PlansPurge v blob p.entries p.plans → KeepsPlanned v p v.root.next new → DropsEntries v new blob
 purge_drops v new blob p plans kept = record {
   entries = subst (AllZip KeptOf (without_blob v.entries blob.0)) (sym kept.entries) plans.kept;
   next = kept.root.next;

@@ -5,8 +5,9 @@ use Rattle.std.proofs.Common.{◌∙◌, sym, ap, subst, inl, inr, arith}
 use Rattle.std.proofs.lemmas.Bool.Decides.{nat_tests}
 use Rattle.std.proofs.lemmas.List.{append-nil}
 use Rattle.arch_base.specs.declared.config.Config.{Config}
-use Rattle.arch_base.specs.declared.ids.Id20.{Id20}
+use Rattle.arch_base.specs.declared.ids.ObjectId.{ObjectId}
 use Rattle.arch_base.specs.Moments.{last_moment}
+use Rattle.arch_base.specs.declared.ids.Form.TheVariants as form
 use Rattle.disk_model.specs.declared.disk.Disk.{Ghosts as Disk}
 use Rattle.disk_model.specs.declared.name.FileKind.{FileKind}
 use Rattle.disk_model.specs.declared.name.FileKind.TheVariants as file_kind
@@ -83,10 +84,10 @@ module _ (v : StoreState) (a b : Archive) (cache : List ℕ) (p : NextPlace) (e 
   piece_is : appended p.length e ≡ front_at (length (bytes_in a p.epoch)) ++ bytes_after (last_commit None (in_epoch a.entries p.epoch)) (entry_of e)
   piece_is =
       ap (λ (n : ℕ). front_at n ++ bytes_after e.parent (entry_of e)) next.length_is
-      ∙ ap (λ (q : Option Id20). front_at (length (bytes_in a p.epoch)) ++ bytes_after q (entry_of e)) (parent ∙ next.parent)
+      ∙ ap (λ (q : Option ObjectId). front_at (length (bytes_in a p.epoch)) ++ bytes_after q (entry_of e)) (parent ∙ next.parent)
 
-  line_is : line_of v.root p e ≡ line_by e.kind a.next (new_epoch a) (blob_id_of e.text.now)
-  line_is = ap (λ (n : ℕ). line_by e.kind n p.epoch (blob_id_of e.text.now)) keeps.names.next ∙ ap (λ (n : ℕ). line_by e.kind a.next n (blob_id_of e.text.now)) next.epoch
+  line_is : line_of v.root p e ≡ line_by e.kind a.next (new_epoch a) (blob_id_of form.Sha1 e.text.now)
+  line_is = ap (λ (n : ℕ). line_by e.kind n p.epoch (blob_id_of form.Sha1 e.text.now)) keeps.names.next ∙ ap (λ (n : ℕ). line_by e.kind a.next n (blob_id_of form.Sha1 e.text.now)) next.epoch
 
   parts_are : (k : FileKind) (n : ℕ) → parts_with v.root p e (parts_of a cache) k n ≡ parts_of b cache k n
   parts_are file_kind.Root n = refl

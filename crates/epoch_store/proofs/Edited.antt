@@ -2,8 +2,9 @@
 use Rattle.std.specs.Prelude.{◌≡◌, ◌+◌, ◌≤◌, ℕ, List, Option, Some, None}
 use Rattle.std.proofs.Common.{◌∙◌, sym, subst}
 use Rattle.arch_base.specs.declared.config.Config.{Config}
-use Rattle.arch_base.specs.declared.ids.Id20.{Id20}
+use Rattle.arch_base.specs.declared.ids.ObjectId.{ObjectId}
 use Rattle.arch_base.specs.Moments.{last_moment}
+use Rattle.arch_base.specs.declared.ids.Form.TheVariants as form
 use Rattle.disk_model.specs.Disk.{Content}
 use Rattle.git_objects.specs.Objects.{blob_id_of}
 use Rattle.arch_model.specs.Archives.{Archive, live, text_of, with_entry, without_entries}
@@ -17,8 +18,8 @@ use Rattle.store_finding.proofs.FrontParts.{store_keeps}
 use Rattle.epoch_store.proofs.Kept.{in_epochs_more}
 
 -- The plans write the archive with the message.
-pub edited_archive : (v : StoreState) (number : ℕ) (blob : Id20) (text : List ℕ) (moment : ℕ) (p q : Planning) (content : Option Content) → MayEdit v number blob text → moment ≤ last_moment → PlansPurge v blob p.entries p.plans → PlansOwn v blob p.entries p.plans content → PlansEdit v p text moment q
-    → (n : ℕ) (a : Archive) (cache gone : List ℕ) → IsStoreWith v cache a content → text_of (live a.entries) n ≡ Some gone → blob_id_of gone ≡ blob → collision (without_entries a gone).entries text ≡ None
+pub edited_archive : (v : StoreState) (number : ℕ) (blob : ObjectId) (text : List ℕ) (moment : ℕ) (p q : Planning) (content : Option Content) → MayEdit v number blob text → moment ≤ last_moment → PlansPurge v blob p.entries p.plans → PlansOwn v blob p.entries p.plans content → PlansEdit v p text moment q
+    → (n : ℕ) (a : Archive) (cache gone : List ℕ) → IsStoreWith v cache a content → text_of (live a.entries) n ≡ Some gone → blob_id_of form.Sha1 gone ≡ blob → collision (without_entries a gone).entries text ≡ None
     → PlansArchive v.root cache a (with_entry (without_entries a gone) (new_epoch (without_entries a gone)) text moment) q (v.root.next + 1)
 edited_archive v number blob text moment p q content may in_time purge own edit n a cache gone store shown is alone =
     let keeps = store_keeps v cache a content store in
@@ -28,7 +29,7 @@ edited_archive v number blob text moment p q content may in_time purge own edit 
     edit.archive cache a (without_entries a gone) made keeps.names purge.anew (edited_valid (without_entries a gone) text moment made.valid left may.storage (may.id a n gone keeps there.is is) alone in_time)
 
 -- What is kept then.
-pub edit_keeps : (v new : StoreState) (blob : Id20) (text : List ℕ) (moment : ℕ) (p q : Planning) → PlansPurge v blob p.entries p.plans → PlansEdit v p text moment q → KeepsPlanned v q (v.root.next + 1) new → EditsEntries v new blob text
+pub edit_keeps : (v new : StoreState) (blob : ObjectId) (text : List ℕ) (moment : ℕ) (p q : Planning) → PlansPurge v blob p.entries p.plans → PlansEdit v p text moment q → KeepsPlanned v q (v.root.next + 1) new → EditsEntries v new blob text
 edit_keeps v new blob text moment p q purge edit kept = record {
   front = p.entries;
   entry = edit.entry;
@@ -44,5 +45,5 @@ edit_keeps v new blob text moment p q purge edit kept = record {
 }
 
 -- Its entries are in epochs.
-pub edit_low : (v : StoreState) (blob : Id20) (text : List ℕ) (moment : ℕ) (p q : Planning) → InEpochs v.entries → PlansPurge v blob p.entries p.plans → PlansEdit v p text moment q → InEpochs q.entries
+pub edit_low : (v : StoreState) (blob : ObjectId) (text : List ℕ) (moment : ℕ) (p q : Planning) → InEpochs v.entries → PlansPurge v blob p.entries p.plans → PlansEdit v p text moment q → InEpochs q.entries
 edit_low v blob text moment p q low purge edit = subst InEpochs (sym edit.entries) (in_epochs_more p.entries edit.entry (kept_low v.entries p.entries blob.0 low purge.kept) edit.small)

@@ -3,7 +3,8 @@ use Rattle.std.specs.Prelude.{◌≡◌, ◌≢◌, ◌+◌, ◌-◌, ◌*◌, �
 use Rattle.std.proofs.Common.{◌∙◌, sym, ap, subst, inl, inr, arith, length-append}
 use Rattle.std.proofs.lemmas.Bool.{cases_lt}
 use Rattle.std.proofs.lemmas.List.{nil_from_length}
-use Rattle.arch_base.specs.declared.ids.Id20.{Id20}
+use Rattle.arch_base.specs.declared.ids.ObjectId.{ObjectId}
+use Rattle.arch_base.specs.declared.ids.Form.TheVariants as form
 use Rattle.disk_model.specs.declared.disk.Disk.{Ghosts as Disk}
 use Rattle.disk_model.specs.declared.name.FileKind.{FileKind}
 use Rattle.disk_model.specs.declared.name.FileKind.TheVariants as kind
@@ -57,8 +58,8 @@ nothing_told to end_ None inside = tt
 nothing_told to end_ (Some k) inside = none_added to end_ k inside
 
 -- An entry has some bytes.
-pub some_bytes : (parent : Option Id20) (e : EpochEntry) → 0 < length (bytes_after parent e)
-unfolding entry_bytes
+pub some_bytes : (parent : Option ObjectId) (e : EpochEntry) → 0 < length (bytes_after parent e)
+unfolding (entry_bytes form.Sha1)
 some_bytes parent e = omega arith
 
 -- So has what is appended for it.
@@ -68,8 +69,8 @@ appended_some at e = (let some = some_bytes e.parent (entry_of e) in omega (arit
 -- The map gets one record for each number that is taken.
 line_size : (root : Root) (p : NextPlace) (e : NewEntry) → length (line_of root p e) ≡ numbers_by e.kind * 28
 line_size root p e = by e.kind where
-  by : (k : EntryKind) → length (line_by k root.next p.epoch (blob_id_of e.text.now)) ≡ numbers_by k * 28
-  by Message = record_length (record { number = root.next; epoch = p.epoch; blob = blob_id_of e.text.now }) (IsObjectId-id_of (blob_spelling e.text.now)).len
+  by : (k : EntryKind) → length (line_by k root.next p.epoch (blob_id_of form.Sha1 e.text.now)) ≡ numbers_by k * 28
+  by Message = record_length form.Sha1 (record { number = root.next; epoch = p.epoch; blob = blob_id_of form.Sha1 e.text.now }) (IsObjectId-id_of (blob_spelling e.text.now)).len
   by Deletion = refl
 
 -- The map's bytes that count end where its records do.

@@ -4,6 +4,7 @@ use Rattle.std.specs.List.{AllByRecursion}
 use Rattle.std.proofs.Common.{◌∙◌, sym, ap, subst, inl, inr, arith, length-append}
 use Rattle.std.proofs.lemmas.Bool.Decides.{nat_tests}
 use Rattle.std.proofs.lemmas.List.{get_or-set_same, get_or-set_other}
+use Rattle.arch_base.specs.declared.ids.Form.TheVariants as form
 use Rattle.arch_model.proofs.ValidArchives.{all_weaker}
 use Rattle.disk_model.specs.declared.name.FileKind.TheVariants as kind
 use Rattle.root_slots.specs.declared.root.Place.{Place}
@@ -73,7 +74,7 @@ new_lies start entry seen at front at_is front_is seen_at_is text_is size_is = b
   by true is =
       let none : start ≡ 0 = grind (arith, nat_tests, is) in
       let at_8 : at ≡ 8 = at_is ∙ ap (λ (b : Bool). if b then 8 else start) is in
-      let eight : length (front_at start) ≡ 8 = ap (λ (b : Bool). length (if b then magic else [])) is in
+      let eight : length (front_at start) ≡ 8 = ap (λ (b : Bool). length (if b then magic form.Sha1 else [])) is in
       let size = length-entry entry.parent (entry_of entry) in
       record { at = omega (arith, none); text = omega (arith, seen_at_is, text_is); ends = omega (arith, more, eight, size, none, at_8, text_is, front_is, size_is) }
   by false is =

@@ -6,6 +6,7 @@ use Rattle.std.proofs.Common.{◌∙◌, sym, ap, subst, inl, inr, arith}
 use Rattle.std.proofs.Math.Seq.{take-length}
 use Rattle.std.proofs.lemmas.Bool.{cases_lt}
 use Rattle.std.proofs.lemmas.Bool.Decides.{nat_tests}
+use Rattle.arch_base.specs.declared.ids.Form.TheVariants as form
 use Rattle.disk_model.specs.Name.{kind_index}
 use Rattle.disk_model.specs.declared.name.FileKind.{FileKind}
 use Rattle.disk_model.specs.declared.name.FileKind.TheVariants as kind
@@ -97,18 +98,18 @@ not_among (e ∷ es) text low n less climbs =
 
 -- The record of a number without the messages that are gone.
 abbrev record_of : List ℕ → ℕ → Option Entry → Record
-record_of gone n found_ = if is_among gone n then none_record n else record_for n found_
+record_of gone n found_ = if is_among gone n then none_record form.Sha1 n else record_for n found_
 
 record_step : (t u : Bool) (e : Entry) (es : List Entry) (text : List ℕ) (n : ℕ) → bytes_eq text e.text ≡ t → (e.number == n) ≡ u → Climbs (e.number + 1) es → record_of (nums es text) n (entry_of es n) ≡ record_for n (entry_of (kept_of es text) n)
     → record_of (if t then e.number ∷ nums es text else nums es text) n (if u then Some e else entry_of es n) ≡ record_for n (entry_of (if not t then e ∷ kept_of es text else kept_of es text) n)
 record_step true true e es text n is test climbs rest =
     let same : e.number ≡ n = grind (arith, nat_tests, test) in
-    ap (λ (b : Bool). if b || is_among (nums es text) n then none_record n else record_for n (Some e)) test
+    ap (λ (b : Bool). if b || is_among (nums es text) n then none_record form.Sha1 n else record_for n (Some e)) test
     ∙ ap (record_for n) (sym (none_kept es text (e.number + 1) n (omega (arith, same)) climbs))
-record_step true false e es text n is test climbs rest = ap (λ (b : Bool). if b || is_among (nums es text) n then none_record n else record_for n (entry_of es n)) test ∙ rest
+record_step true false e es text n is test climbs rest = ap (λ (b : Bool). if b || is_among (nums es text) n then none_record form.Sha1 n else record_for n (entry_of es n)) test ∙ rest
 record_step false true e es text n is test climbs rest =
     let same : e.number ≡ n = grind (arith, nat_tests, test) in
-    ap (λ (b : Bool). if b then none_record n else record_for n (Some e)) (not_among es text (e.number + 1) n (omega (arith, same)) climbs)
+    ap (λ (b : Bool). if b then none_record form.Sha1 n else record_for n (Some e)) (not_among es text (e.number + 1) n (omega (arith, same)) climbs)
     ∙ ap (λ (b : Bool). record_for n (if b then Some e else entry_of (kept_of es text) n)) (sym test)
 record_step false false e es text n is test climbs rest = rest ∙ ap (λ (b : Bool). record_for n (if b then Some e else entry_of (kept_of es text) n)) (sym test)
 
@@ -120,16 +121,16 @@ numbered : (n : ℕ) (o : Option Entry) → (record_for n o).number ≡ n
 numbered n None = refl
 numbered n (Some e) = refl
 
-record_is : (gone : List ℕ) (n : ℕ) (o : Option Entry) → record_without gone (record_for n o) ≡ record_of gone n o
+record_is : (gone : List ℕ) (n : ℕ) (o : Option Entry) → record_without form.Sha1 gone (record_for n o) ≡ record_of gone n o
 record_is gone n None = refl
 record_is gone n (Some e) = refl
 
-records_same : (gone : List ℕ) (es fs : List Entry) (n count : ℕ) → ((m : ℕ) → record_of gone m (entry_of es m) ≡ record_for m (entry_of fs m)) → map (record_without gone) (records_from es n count) ≡ records_from fs n count
+records_same : (gone : List ℕ) (es fs : List Entry) (n count : ℕ) → ((m : ℕ) → record_of gone m (entry_of es m) ≡ record_for m (entry_of fs m)) → map (record_without form.Sha1 gone) (records_from es n count) ≡ records_from fs n count
 records_same gone es fs n zero each = refl
 records_same gone es fs n (suc count) each = λ i. (record_is gone n (entry_of es n) ∙ each n) i ∷ records_same gone es fs (n + 1) count each i
 
 -- The map without the messages that are gone is that of the archive without their text.
-pub map_same : (a : Archive) (text : List ℕ) → IsArchive a → map_without (gone_of a.entries text) (records_of a) ≡ map_bytes (without_entries a text)
+pub map_same : (a : Archive) (text : List ℕ) → IsArchive a → map_without form.Sha1 (gone_of a.entries text) (records_of a) ≡ map_bytes (without_entries a text)
 map_same a text valid =
     let ms = messages a.entries in
     let climbs = messages_climb 1 0 a.entries valid.order in
@@ -198,7 +199,7 @@ module _ (k : Content) (v : StoreState) (cache : List ℕ) (a : Archive) (own : 
     abbrev plan : Plan
     plan = finishes.2.0
 
-    of_map : PlansMap map count mid.gone plan
+    of_map : PlansMap form.Sha1 map count mid.gone plan
     of_map = finishes.2.1
 
     new_is : new ≡ record { plans = mid.plans ++ plan ∷ []; entries = mid.entries; gone = mid.gone; current = mid.current }
@@ -221,7 +222,7 @@ module _ (k : Content) (v : StoreState) (cache : List ℕ) (a : Archive) (own : 
         ap (texts_in k) map_is
         ∙ (reads (map_file_of v.root) (map_isnt_root v.root.map.generation) ∙ text_named v.root (parts_of a cache) (map_file_of v.root) (map_is_named v.root v.root.map.generation refl))
 
-    begins : BeginsWithRecords (records_of a) (texts_in k map)
+    begins : BeginsWithRecords form.Sha1 (records_of a) (texts_in k map)
     begins =
         let long : 28 * length (records_of a) ≡ length (map_bytes a) = ap (λ (n : ℕ). 28 * n) (records_few a) ∙ sym (map_length a own.keeps.valid) in
         record {
@@ -229,7 +230,7 @@ module _ (k : Content) (v : StoreState) (cache : List ℕ) (a : Archive) (own : 
           spelled = ap (take (28 * length (records_of a))) map_text ∙ (ap (λ (n : ℕ). take n (map_bytes a)) long ∙ take-length (map_bytes a));
         }
 
-    map_planned_so : IsPlanWhole (texts_in k) plan × (written_by (texts_in k) plan ≡ map_without mid.gone (records_of a))
+    map_planned_so : IsPlanWhole (texts_in k) plan × (written_by (texts_in k) plan ≡ map_without form.Sha1 mid.gone (records_of a))
     map_planned_so = of_map.written (texts_in k) (records_of a) (records_few a ∙ (ap (λ (n : ℕ). n - 1) (sym own.keeps.names.next) ∙ sym count_is)) begins
 
     map_part : (n : ℕ) (b : Bool) → (n == 0) ≡ b → planned (texts_in k) (plan_of (mid.plans ++ plan ∷ []) kind.Map n) (if b then map_bytes a else []) ≡ (if b then map_bytes (without_entries a text) else [])
@@ -238,7 +239,7 @@ module _ (k : Content) (v : StoreState) (cache : List ℕ) (a : Archive) (own : 
         let here : plan_of (mid.plans ++ plan ∷ []) kind.Map n ≡ Some plan = of_more mid.plans (plan ∷ []) kind.Map n (shut_so.map n) ∙ of_first plan [] kind.Map n (is_of_own plan kind.Map n of_map.kind (of_map.number ∙ sym n_is)) in
         ap (λ (o : Option Plan). planned (texts_in k) o (map_bytes a)) here
         ∙ (ap (λ (target : Target). bytes_by target (map_bytes a) (written_by (texts_in k) plan)) of_map.target
-        ∙ (map_planned_so.1 ∙ (ap (λ (gone : List ℕ). map_without gone (records_of a)) shut_so.gone ∙ map_same a text own.keeps.valid)))
+        ∙ (map_planned_so.1 ∙ (ap (λ (gone : List ℕ). map_without form.Sha1 gone (records_of a)) shut_so.gone ∙ map_same a text own.keeps.valid)))
     map_part n false other =
         let apart : n ≢ 0 = (λ is. (let wrong = same_test n 0 is in let no : true ≡ false = sym wrong ∙ other in cc)) in
         planned_none (texts_in k) (plan_of (mid.plans ++ plan ∷ []) kind.Map n) []

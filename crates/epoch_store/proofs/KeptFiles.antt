@@ -4,7 +4,7 @@ use Rattle.std.specs.Str.{bytes_eq}
 use Rattle.std.proofs.Common.{◌∙◌, sym, ap, subst, inl, inr, arith}
 use Rattle.std.proofs.lemmas.Bool.Decides.{nat_tests}
 use Rattle.std.proofs.lemmas.Slice.Eq.{bytes_eq-Decides}
-use Rattle.arch_base.specs.declared.ids.Id20.{Id20}
+use Rattle.arch_base.specs.declared.ids.ObjectId.{ObjectId}
 use Rattle.disk_model.specs.declared.name.FileKind.TheVariants as kind
 use Rattle.root_slots.specs.declared.root.Place.{Place}
 use Rattle.root_slots.specs.declared.root.Root.{Root}
@@ -24,15 +24,15 @@ use Rattle.epoch_store.proofs.Carrying.{anew_goes}
 use Rattle.epoch_store.proofs.Purged.{id_is}
 
 -- An epoch loses an entry exactly if one of its entries has the blob id.
-abbrev hits : StoredEntry → Id20 → ℕ → Bool
+abbrev hits : StoredEntry → ObjectId → ℕ → Bool
 hits s blob e = bytes_eq blob.0 s.seen.blob.0 && (s.epoch == e)
 
-has_first : (s : StoredEntry) (es : List StoredEntry) (blob : Id20) (e : ℕ) → hits s blob e ≡ true → HasBlob (s ∷ es) blob e
+has_first : (s : StoredEntry) (es : List StoredEntry) (blob : ObjectId) (e : ℕ) → hits s blob e ≡ true → HasBlob (s ∷ es) blob e
 has_first s es blob e is =
     let tests = both (bytes_eq blob.0 s.seen.blob.0) (s.epoch == e) is in
     (s, (0, omega arith, refl), is_same s.epoch e tests.1, id_is s.seen.blob blob (sym ((bytes_eq-Decides blob.0 s.seen.blob.0).0 tests.0)))
 
-has_later : (s : StoredEntry) (es : List StoredEntry) (blob : Id20) (e : ℕ) → HasBlob es blob e → HasBlob (s ∷ es) blob e
+has_later : (s : StoredEntry) (es : List StoredEntry) (blob : ObjectId) (e : ℕ) → HasBlob es blob e → HasBlob (s ∷ es) blob e
 has_later s es blob e has =
     let at = has.1 in
     let low = at.1 in
@@ -47,19 +47,19 @@ or_either true u is = refl
 or_either false u (inl is) = absurd (let wrong : false ≡ true = is in cc)
 or_either false u (inr is) = is
 
-lost_has : (es : List StoredEntry) (blob : Id20) (e : ℕ) → loses es blob.0 e ≡ true → HasBlob es blob e
+lost_has : (es : List StoredEntry) (blob : ObjectId) (e : ℕ) → loses es blob.0 e ≡ true → HasBlob es blob e
 lost_has [] blob e is = absurd (let wrong : false ≡ true = is in cc)
 lost_has (s ∷ es) blob e is = elim (or_true (hits s blob e) (loses es blob.0 e) is) [
   | inl this ↦ has_first s es blob e this
   | inr later ↦ has_later s es blob e (lost_has es blob e later)
 ]
 
-hit_is : (s t : StoredEntry) (blob : Id20) (e : ℕ) → s ≡ t → t.epoch ≡ e → t.seen.blob ≡ blob → hits s blob e ≡ true
+hit_is : (s t : StoredEntry) (blob : ObjectId) (e : ℕ) → s ≡ t → t.epoch ≡ e → t.seen.blob ≡ blob → hits s blob e ≡ true
 hit_is s t blob e same epoch_is blob_is =
     ap (λ (r : StoredEntry). hits r blob e) same
-    ∙ (ap (λ (b : Bool). b && (t.epoch == e)) ((bytes_eq-Decides blob.0 t.seen.blob.0).1 (ap (λ (i : Id20). i.0) (sym blob_is))) ∙ same_test t.epoch e epoch_is)
+    ∙ (ap (λ (b : Bool). b && (t.epoch == e)) ((bytes_eq-Decides blob.0 t.seen.blob.0).1 (ap (λ (i : ObjectId). i.0) (sym blob_is))) ∙ same_test t.epoch e epoch_is)
 
-has_lost : (es : List StoredEntry) (blob : Id20) (e : ℕ) (t : StoredEntry) (k : ℕ) → k < length es → get_or es k t ≡ t → t.epoch ≡ e → t.seen.blob ≡ blob → loses es blob.0 e ≡ true
+has_lost : (es : List StoredEntry) (blob : ObjectId) (e : ℕ) (t : StoredEntry) (k : ℕ) → k < length es → get_or es k t ≡ t → t.epoch ≡ e → t.seen.blob ≡ blob → loses es blob.0 e ≡ true
 has_lost [] blob e t k less is epoch_is blob_is = absurd (omega (arith, less))
 has_lost (s ∷ es) blob e t zero less is epoch_is blob_is = or_either (hits s blob e) (loses es blob.0 e) (inl (hit_is s t blob e is epoch_is blob_is))
 has_lost (s ∷ es) blob e t (suc k) less is epoch_is blob_is = or_either (hits s blob e) (loses es blob.0 e) (inr (has_lost es blob e t k (omega (arith, less)) is epoch_is blob_is))
@@ -73,7 +73,7 @@ the_some : (o : Option Plan) → is_some o ≡ true → (p : Plan) × (o ≡ Som
 the_some None is = absurd (let wrong : false ≡ true = is in cc)
 the_some (Some p) is = (p, refl)
 
-module _ (v : StoreState) (blob : Id20) (p : Planning) (purge : PlansPurge v blob p.entries p.plans) where
+module _ (v : StoreState) (blob : ObjectId) (p : Planning) (purge : PlansPurge v blob p.entries p.plans) where
   none_planned : (e : ℕ) → (HasBlob v.entries blob e → ⊥) → plan_of p.plans kind.Epoch e ≡ None
   none_planned e none = elim (true_or_false (loses v.entries blob.0 e)) [
     | inl is ↦ absurd (none (lost_has v.entries blob e is))

@@ -3,7 +3,8 @@ use Rattle.std.specs.Prelude.{◌≡◌, ◌+◌, ◌==◌, ℕ, suc, Bool, ◌&
 use Rattle.std.specs.Str.{bytes_eq}
 use Rattle.std.proofs.Common.{◌∙◌, sym, ap, arith}
 use Rattle.std.proofs.lemmas.List.Folds.{list_any-append}
-use Rattle.arch_base.specs.declared.ids.Id20.{Id20}
+use Rattle.arch_base.specs.declared.ids.ObjectId.{ObjectId}
+use Rattle.arch_base.specs.declared.ids.Form.TheVariants as form
 use Rattle.disk_model.specs.declared.name.FileKind.TheVariants as kind
 use Rattle.disk_model.specs.declared.name.FileName.{FileName}
 use Rattle.root_change.specs.Rewriting.{Plan, plan_of}
@@ -17,7 +18,7 @@ use Rattle.epoch_store.proofs.Purged.{take_one}
 use Rattle.store_planning.proofs.Losing.{or_no, closed_some}
 
 -- So far the epochs of these entries that lose one are to be written anew.
-pub lost_more : (es : List StoredEntry) (n : ℕ) (s : StoredEntry) (blob : Id20) (number : ℕ) (old new : Planning) → slice_get es n ≡ Some s → number ≡ s.epoch → ((e : ℕ) → is_anew old e ≡ loses (take n es) blob.0 e) → ChangesNext old number (bytes_eq blob.0 s.seen.blob.0) new
+pub lost_more : (es : List StoredEntry) (n : ℕ) (s : StoredEntry) (blob : ObjectId) (number : ℕ) (old new : Planning) → slice_get es n ≡ Some s → number ≡ s.epoch → ((e : ℕ) → is_anew old e ≡ loses (take n es) blob.0 e) → ChangesNext old number (bytes_eq blob.0 s.seen.blob.0) new
     → (e : ℕ) → is_anew new e ≡ loses (take (n + 1) es) blob.0 e
 lost_more es n s blob number old new here number_is all next = λ e.
     let count : suc n ≡ n + 1 = omega arith in
@@ -34,7 +35,7 @@ pub finished_some : (old : Planning) (map : FileName) (count : ℕ) (new : Plann
 finished_some old map count new finishes e =
     ap (λ (p : Planning). is_some (plan_of p.plans kind.Epoch e)) finishes.2.2.0
     ∙ (ap (λ (o : Option Plan). is_some o) (of_others finishes.0.plans finishes.2.0 kind.Epoch e (other_part finishes.2.0 kind.Epoch e (λ k_is n_is. epoch_isnt_map (sym of_map.kind ∙ k_is)))) ∙ by old.current finishes.1) where
-      of_map : PlansMap map count finishes.0.gone finishes.2.0
+      of_map : PlansMap form.Sha1 map count finishes.0.gone finishes.2.0
       of_map = finishes.2.1
 
       by : (current : Option Planned) → ClosesLast old current finishes.0 → is_some (plan_of finishes.0.plans kind.Epoch e) ≡ (is_some (plan_of old.plans kind.Epoch e) || is_changed current e)

@@ -7,13 +7,14 @@ use Rattle.std.proofs.lemmas.List.{append-nil, append_assoc, take_all}
 use Rattle.std.proofs.lemmas.List.Elements.{AllZip-push, filter-append}
 use Rattle.std.proofs.lemmas.Option.{same_Some, slice_get-get_or, slice_get_within}
 use Rattle.std.proofs.lemmas.Slice.Eq.{bytes_eq-Decides}
-use Rattle.arch_base.specs.declared.ids.Id20.{Id20}
+use Rattle.arch_base.specs.declared.ids.ObjectId.{ObjectId}
 use Rattle.disk_model.specs.Disk.{Content, BothTold, Unchanged, WhereTold}
 use Rattle.disk_model.specs.declared.name.FileName.{FileName}
 use Rattle.git_objects.specs.Objects.{blob_id_of}
 use Rattle.git_objects.specs.declared.entry_kind.EntryKind.{EntryKind}
 use Rattle.git_objects.specs.declared.entry_kind.EntryKind.TheVariants.{Message, Deletion}
 use Rattle.arch_base.specs.Counts.{RoseIf}
+use Rattle.arch_base.specs.declared.ids.Form.TheVariants as form
 use Rattle.root_slots.specs.declared.root.Root.{Root}
 use Rattle.root_slots.specs.Slots.{slot_number}
 use Rattle.root_slots.specs.Valid.{IsRoot}
@@ -37,7 +38,7 @@ use Rattle.epoch_store.proofs.Finished.{entries_are, finished_without}
 use Rattle.epoch_store.proofs.Texts.{kept_found}
 
 -- Before the first entry.
-pub first_none : (v : StoreState) (blob : Id20) (content : Option Content) → WhereTold (PlansFirst v blob 0 no_planning) content
+pub first_none : (v : StoreState) (blob : ObjectId) (content : Option Content) → WhereTold (PlansFirst v blob 0 no_planning) content
 first_none v blob None = tt
 first_none v blob (Some k) = λ cache a text own picks. record {
   entries = refl;
@@ -91,7 +92,7 @@ pub one_content : (k m : Content) → Unchanged k m → m ≡ k
 one_content k m same = λ i. λ (name : FileName). same name i
 
 -- One entry more.
-pub first_more : (v : StoreState) (blob : Id20) (n : ℕ) (p new : Planning) (content mid : Option Content) (stored : StoredEntry) (file : FileName) → BothTold Unchanged content mid → slice_get v.entries n ≡ Some stored → file ≡ epoch_file_of v.root stored.epoch
+pub first_more : (v : StoreState) (blob : ObjectId) (n : ℕ) (p new : Planning) (content mid : Option Content) (stored : StoredEntry) (file : FileName) → BothTold Unchanged content mid → slice_get v.entries n ≡ Some stored → file ≡ epoch_file_of v.root stored.epoch
     → WhereTold (PlansFirst v blob n p) content → PlansNext p file stored blob mid new (Ok tt) → WhereTold (PlansFirst v blob (n + 1) new) content
 first_more v blob n p new None mid stored file same here file_is up takes = tt
 first_more v blob n p new (Some k) None stored file same here file_is up takes = absurd same
@@ -107,7 +108,7 @@ length_stored : (before es : List Entry) → length (stored_after before es) ≡
 length_stored before [] = refl
 length_stored before (e ∷ es) = ap suc (length_stored (before ++ e ∷ []) es)
 
-pub first_whole : (v : StoreState) (blob : Id20) (n : ℕ) (p : Planning) (content : Option Content) → length v.entries ≤ n → WhereTold (PlansFirst v blob n p) content → WhereTold (PlansFirst v blob (length v.entries) p) content
+pub first_whole : (v : StoreState) (blob : ObjectId) (n : ℕ) (p : Planning) (content : Option Content) → length v.entries ≤ n → WhereTold (PlansFirst v blob n p) content → WhereTold (PlansFirst v blob (length v.entries) p) content
 first_whole v blob n p None most up = tt
 first_whole v blob n p (Some k) most up = λ cache a text own picks.
     let size : length v.entries ≡ length a.entries = ap length own.keeps.kept ∙ length_stored [] a.entries in
@@ -126,26 +127,26 @@ test_step true false one two = absurd (let wrong : false ≡ true = one refl in 
 test_step false true one two = absurd (let wrong : false ≡ true = two refl in cc)
 test_step false false one two = refl
 
-pub id_is : (i j : Id20) → i.0 ≡ j.0 → i ≡ j
-id_is i j same = ap (λ (l : List ℕ). let id : Id20 = record { 0 = l } in id) same
+pub id_is : (i j : ObjectId) → i.0 ≡ j.0 → i ≡ j
+id_is i j same = ap (λ (l : List ℕ). let id : ObjectId = record { 0 = l } in id) same
 
-picks_one : (blob : Id20) (text : List ℕ) (e : Entry) → blob ≡ blob_id_of text → (blob_id_of text ≡ blob_id_of e.text → text ≡ e.text) → bytes_eq blob.0 (blob_id_of e.text).0 ≡ bytes_eq text e.text
+picks_one : (blob : ObjectId) (text : List ℕ) (e : Entry) → blob ≡ blob_id_of form.Sha1 text → (blob_id_of form.Sha1 text ≡ blob_id_of form.Sha1 e.text → text ≡ e.text) → bytes_eq blob.0 (blob_id_of form.Sha1 e.text).0 ≡ bytes_eq text e.text
 picks_one blob text e is agrees =
-    test_step (bytes_eq blob.0 (blob_id_of e.text).0) (bytes_eq text e.text)
-    (λ hit. (bytes_eq-Decides text e.text).1 (agrees (sym is ∙ id_is blob (blob_id_of e.text) ((bytes_eq-Decides blob.0 (blob_id_of e.text).0).0 hit))))
-    (λ hit. (bytes_eq-Decides blob.0 (blob_id_of e.text).0).1 (ap (λ (i : Id20). i.0) is ∙ ap (λ (t : List ℕ). (blob_id_of t).0) ((bytes_eq-Decides text e.text).0 hit)))
+    test_step (bytes_eq blob.0 (blob_id_of form.Sha1 e.text).0) (bytes_eq text e.text)
+    (λ hit. (bytes_eq-Decides text e.text).1 (agrees (sym is ∙ id_is blob (blob_id_of form.Sha1 e.text) ((bytes_eq-Decides blob.0 (blob_id_of form.Sha1 e.text).0).0 hit))))
+    (λ hit. (bytes_eq-Decides blob.0 (blob_id_of form.Sha1 e.text).0).1 (ap (λ (i : ObjectId). i.0) is ∙ ap (λ (t : List ℕ). (blob_id_of form.Sha1 t).0) ((bytes_eq-Decides text e.text).0 hit)))
 
-pub picks_text : (a : Archive) (blob : Id20) (text : List ℕ) → BlobsAgree a.entries → HasText text a.entries → blob ≡ blob_id_of text → PicksText a blob text
+pub picks_text : (a : Archive) (blob : ObjectId) (text : List ℕ) → BlobsAgree a.entries → HasText text a.entries → blob ≡ blob_id_of form.Sha1 text → PicksText a blob text
 picks_text a blob text agree has is =
-    all_weaker (λ (e : Entry). blob_id_of text ≡ blob_id_of e.text → text ≡ e.text) (λ (e : Entry). bytes_eq blob.0 (blob_id_of e.text).0 ≡ bytes_eq text e.text) a.entries (λ e agrees. picks_one blob text e is agrees) (agrees-has a.entries text agree has)
+    all_weaker (λ (e : Entry). blob_id_of form.Sha1 text ≡ blob_id_of form.Sha1 e.text → text ≡ e.text) (λ (e : Entry). bytes_eq blob.0 (blob_id_of form.Sha1 e.text).0 ≡ bytes_eq text e.text) a.entries (λ e agrees. picks_one blob text e is agrees) (agrees-has a.entries text agree has)
 
 -- The text of an entry that is kept with a blob id.
-pub picked : (v : StoreState) (cache : List ℕ) (a : Archive) (k : Content) (blob : Id20) → IsDiskWith v cache a k → (e : StoredEntry) × Contains v.entries e × (e.seen.blob ≡ blob) → (text : List ℕ) × PicksText a blob text
+pub picked : (v : StoreState) (cache : List ℕ) (a : Archive) (k : Content) (blob : ObjectId) → IsDiskWith v cache a k → (e : StoredEntry) × Contains v.entries e × (e.seen.blob ≡ blob) → (text : List ℕ) × PicksText a blob text
 picked v cache a k blob own there =
     let at = there.1 in
     let here : slice_get v.entries at.0 ≡ Some there.0 = slice_get-get_or v.entries at.0 there.0 at.1 ∙ ap (λ (s : StoredEntry). Some s) at.2 in
     let r = kept_found [] a.entries at.0 there.0 (ap (λ (l : List StoredEntry). slice_get l at.0) (sym own.keeps.kept) ∙ here) in
-    let blob_so : blob ≡ blob_id_of r.entry.text = sym there.2 ∙ ap (λ (s : StoredEntry). s.seen.blob) r.kept in
+    let blob_so : blob ≡ blob_id_of form.Sha1 r.entry.text = sym there.2 ∙ ap (λ (s : StoredEntry). s.seen.blob) r.kept in
     (r.entry.text, picks_text a blob r.entry.text own.keeps.valid.blobs (subst (HasText r.entry.text) (sym r.is) (has_there r.front r.entry r.rest)) blob_so)
 
 -- So planning finds no damage on an archive's disk.
@@ -154,7 +155,7 @@ sees_none texts root a es e text new DiskFault T gives = tt
 sees_none texts root a es e text new NoMemory T gives = tt
 sees_none texts root a es e text new (Damaged file at) T gives = gives
 
-pub first_stops : (v : StoreState) (blob : Id20) (n : ℕ) (p new : Planning) (content mid : Option Content) (stored : StoredEntry) (file : FileName) (refusal : StoreRefusal) (T : Type 0) → BothTold Unchanged content mid → slice_get v.entries n ≡ Some stored → file ≡ epoch_file_of v.root stored.epoch
+pub first_stops : (v : StoreState) (blob : ObjectId) (n : ℕ) (p new : Planning) (content mid : Option Content) (stored : StoredEntry) (file : FileName) (refusal : StoreRefusal) (T : Type 0) → BothTold Unchanged content mid → slice_get v.entries n ≡ Some stored → file ≡ epoch_file_of v.root stored.epoch
     → (e : StoredEntry) × Contains v.entries e × (e.seen.blob ≡ blob) → WhereTold (PlansFirst v blob n p) content → PlansNext p file stored blob mid new (Err refusal) → PlansUndamaged {T = T} v (Err refusal) content
 first_stops v blob n p new None mid stored file refusal T same here file_is there up takes = λ a cache store. absurd store
 first_stops v blob n p new (Some k) None stored file refusal T same here file_is there up takes = absurd same
@@ -175,7 +176,7 @@ kept_step : (t : Bool) (e : StoredEntry) (front old new : List StoredEntry) → 
 kept_step true e front old new all is = subst (λ (l : List StoredEntry). AllZip KeptOf l new) (sym (append-nil front)) (subst (AllZip KeptOf front) (sym is) all)
 kept_step false e front old new all more = subst (AllZip KeptOf (front ++ e ∷ [])) (sym more.2) (AllZip-push KeptOf front old e more.0 all more.1)
 
-pub kept_more : (es : List StoredEntry) (n : ℕ) (e : StoredEntry) (blob : Id20) (old new : List StoredEntry) → slice_get es n ≡ Some e → AllZip KeptOf (without_blob (take n es) blob.0) old → KeepsBut (bytes_eq blob.0 e.seen.blob.0) old e new → AllZip KeptOf (without_blob (take (n + 1) es) blob.0) new
+pub kept_more : (es : List StoredEntry) (n : ℕ) (e : StoredEntry) (blob : ObjectId) (old new : List StoredEntry) → slice_get es n ≡ Some e → AllZip KeptOf (without_blob (take n es) blob.0) old → KeepsBut (bytes_eq blob.0 e.seen.blob.0) old e new → AllZip KeptOf (without_blob (take (n + 1) es) blob.0) new
 kept_more es n e blob old new here all keeps =
     let count : suc n ≡ n + 1 = omega arith in
     let parts : without_blob (take (n + 1) es) blob.0 ≡ without_blob (take n es) blob.0 ++ without_blob (e ∷ []) blob.0 =
@@ -204,7 +205,7 @@ finish_entries old map count new finishes = ap (λ (p : Planning). p.entries) fi
   by (Some c) closes = closes_entries (without_current old) closes.0 finishes.0 closes.3
 
 -- All entries were planned, and the map.
-module _ (v : StoreState) (blob : Id20) (p new : Planning) (map : FileName) (map_is : map ≡ map_file_of v.root) (count : ℕ) (count_is : count ≡ v.root.next - 1) (finishes : FinishesPlans p map count new) (from : AreFrom v.root new.plans) where
+module _ (v : StoreState) (blob : ObjectId) (p new : Planning) (map : FileName) (map_is : map ≡ map_file_of v.root) (count : ℕ) (count_is : count ≡ v.root.next - 1) (finishes : FinishesPlans p map count new) (from : AreFrom v.root new.plans) where
   up_all : (k : Content) (cache : List ℕ) (a : Archive) (text : List ℕ) → IsDiskWith v cache a k → PicksText a blob text → PlansFirst v blob (length v.entries) p k → IsPlannedUpTo (texts_in k) v.root a a.entries text p
   up_all k cache a text own picks up =
       let size : length v.entries ≡ length a.entries = ap length own.keeps.kept ∙ length_stored [] a.entries in
@@ -219,8 +220,8 @@ module _ (v : StoreState) (blob : Id20) (p new : Planning) (map : FileName) (map
 
 -- What is known once a planner is finished, of a store that was looked into.
 pub record ReadyOf (v : StoreState) (root : Root) (p new : Planning) : Type 0 where
-  pub purge : (blob : Id20) → AllZip KeptOf (without_blob v.entries blob.0) p.entries → PlansLost v.entries blob new.plans → PlansPurge v blob new.entries new.plans
-  pub own : (blob : Id20) (content : Option Content) → WhereTold (PlansFirst v blob (length v.entries) p) content → PlansOwn v blob new.entries new.plans content
+  pub purge : (blob : ObjectId) → AllZip KeptOf (without_blob v.entries blob.0) p.entries → PlansLost v.entries blob new.plans → PlansPurge v blob new.entries new.plans
+  pub own : (blob : ObjectId) (content : Option Content) → WhereTold (PlansFirst v blob (length v.entries) p) content → PlansOwn v blob new.entries new.plans content
 
 pub ready_of : (v : StoreState) (root : Root) (slot : ℕ) (entries : List StoredEntry) (map : FileName) (p new : Planning) → ◌≡◌ {A = StoreState} (record { root = root; slot = slot; entries = entries }) v → IsRoot root → map ≡ map_file_of root → ArePlansIn v.root p → IsTakenToOffset v.root p → FinishesPlans p map (root.next - 1) new
     → ((r : Root) → IsRoot r → map ≡ map_file_of r → r.map.length ≡ 28 * (root.next - 1) → ArePlansIn r p → IsTakenToOffset r p → AreFrom r new.plans × AreAnew new.plans × IsReadyPlan r new.plans (root.next - 1 + 1) × AreNamedAfter r new.plans new.entries)

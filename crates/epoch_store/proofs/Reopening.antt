@@ -4,6 +4,7 @@ use Rattle.std.specs.Prelude.{◌≡◌, ◌-◌, ◌*◌, ◌<◌, ◌≤◌, �
 use Rattle.std.specs.List.{flat_map}
 use Rattle.std.proofs.Common.{◌∙◌, sym, ap, subst, inl, inr, arith, length-take}
 use Rattle.std.proofs.lemmas.Bool.{cases_lt}
+use Rattle.arch_base.specs.declared.ids.Form.TheVariants as form
 use Rattle.disk_model.specs.declared.name.FileName.{FileName}
 use Rattle.disk_model.specs.Disk.{File, Files, Content, Image, BothTold, WhereTold, Synced, bytes_of, ReadsFit}
 use Rattle.disk_model.specs.Synced.{settled_image}
@@ -169,7 +170,7 @@ sized_so found k n is kept = record {
   map_there =
       let name = map_file_of found.root in
       let end_ : named_end found.root name ≡ found.root.map.length = named_some found.root name (map_is_named found.root found.root.map.generation refl) in
-      let size = records_length 1 is.records is.has.begins.valid in
+      let size = records_length form.Sha1 1 is.records is.has.begins.valid in
       let spelled : length (take (28 * length is.records) (bytes_of (k name).seen)) ≡ length (flat_map record_bytes is.records) = ap (λ (b : List ℕ). length b) is.has.begins.spelled in
       let long = is.root.is_root.map_length in
       let count = is.has.count in

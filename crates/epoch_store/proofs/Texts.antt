@@ -4,7 +4,8 @@ use Rattle.std.specs.List.{AllByRecursion}
 use Rattle.std.proofs.Common.{◌∙◌, sym, ap, subst, arith, append_assoc}
 use Rattle.std.proofs.lemmas.List.{append-nil}
 use Rattle.std.proofs.lemmas.Option.{same_Some, slice_get_within, slice_get-get_or}
-use Rattle.arch_base.specs.declared.ids.Id20.{Id20}
+use Rattle.arch_base.specs.declared.ids.ObjectId.{ObjectId}
+use Rattle.arch_base.specs.declared.ids.Form.TheVariants as form
 use Rattle.disk_model.specs.Disk.{Content, File, bytes_of}
 use Rattle.git_objects.specs.Objects.{blob_id_of}
 use Rattle.arch_model.specs.Archives.{Entry, Archive, in_epoch}
@@ -62,7 +63,7 @@ pub record IsTextAt (root : Root) (es : List Entry) (k : Content) (i : ℕ) (s :
   pub entry : Entry
   pub here : slice_get es i ≡ Some entry
   pub size : s.seen.size ≡ length entry.text
-  pub blob : s.seen.blob ≡ blob_id_of entry.text
+  pub blob : s.seen.blob ≡ blob_id_of form.Sha1 entry.text
   pub long : s.seen.text_at + s.seen.size ≤ length (bytes_of (k (epoch_file_of root s.epoch)).seen)
   pub stands : take s.seen.size (drop s.seen.text_at (bytes_of (k (epoch_file_of root s.epoch)).seen)) ≡ entry.text
 
@@ -83,14 +84,14 @@ text_at root es k valid fronts i s is =
 
 -- The bytes at the offset, on the disk of an archive, are the text of its entry.
 stands_is_text : (v : StoreState) (a : Archive) (k : Content) (i : ℕ) (s : StoredEntry) (text : List ℕ) → IsTextAt v.root a.entries k i s
-    → StandsAt (bytes_of (k (epoch_file_of v.root s.epoch)).seen) s.seen.text_at s.seen.size text → (text_if (slice_get a.entries i) ≡ Some text) × (blob_id_of text ≡ s.seen.blob)
+    → StandsAt (bytes_of (k (epoch_file_of v.root s.epoch)).seen) s.seen.text_at s.seen.size text → (text_if (slice_get a.entries i) ≡ Some text) × (blob_id_of form.Sha1 text ≡ s.seen.blob)
 stands_is_text v a k i s text at stands =
     let same : text ≡ at.entry.text = stands at.long ∙ at.stands in
-    (ap text_if at.here ∙ ap (λ (t : List ℕ). Some t) (sym same), ap blob_id_of same ∙ sym at.blob)
+    (ap text_if at.here ∙ ap (λ (t : List ℕ). Some t) (sym same), ap (blob_id_of form.Sha1) same ∙ sym at.blob)
 
 -- So the text is read, and no damage is found.
 pub right_text : (v : StoreState) (cache : List ℕ) (a : Archive) (k : Option Content) (i : ℕ) (s : StoredEntry) (text : List ℕ) → IsStoreWith v cache a k → slice_get v.entries i ≡ Some s
-    → WhereTold (λ (c : Content). StandsAt (bytes_of (c (epoch_file_of v.root s.epoch)).seen) s.seen.text_at s.seen.size text) k → (text_if (slice_get a.entries i) ≡ Some text) × (blob_id_of text ≡ s.seen.blob)
+    → WhereTold (λ (c : Content). StandsAt (bytes_of (c (epoch_file_of v.root s.epoch)).seen) s.seen.text_at s.seen.size text) k → (text_if (slice_get a.entries i) ≡ Some text) × (blob_id_of form.Sha1 text ≡ s.seen.blob)
 right_text v cache a None i s text own is stands = absurd own
 right_text v cache a (Some k) i s text own is stands =
     stands_is_text v a k i s text (text_at v.root a.entries k own.keeps.valid.entries (disk_fronts v cache a k own).epochs_front i s (subst (λ (l : List StoredEntry). slice_get l i ≡ Some s) own.keeps.kept is)) stands
@@ -106,7 +107,7 @@ pub one_here : (es : List StoredEntry) (i : ℕ) (s e : StoredEntry) → slice_g
 one_here es i s e here is = same_Some e s (sym here ∙ is)
 
 -- What is told of another text.
-pub tells_damage : (s e : StoredEntry) (old text : List ℕ) (found : Id20) → e ≡ s → found ≢ e.seen.blob → length text ≡ e.seen.size → found ≡ blob_id_of text → GivesText s old old (Err (Damaged e.seen.blob found))
+pub tells_damage : (s e : StoredEntry) (old text : List ℕ) (found : ObjectId) → e ≡ s → found ≢ e.seen.blob → length text ≡ e.seen.size → found ≡ blob_id_of form.Sha1 text → GivesText s old old (Err (Damaged e.seen.blob found))
 tells_damage s e old text found is apart size found_is = (refl, ap (λ (f : StoredEntry). f.seen.blob) is, apart, (text, size ∙ ap (λ (f : StoredEntry). f.seen.size) is, found_is))
 
 stands_by : (root : Root) (s e : StoredEntry) (text : List ℕ) (file : FileName) (c : Content) → e ≡ s → file ≡ epoch_file_of root e.epoch → StandsAt (bytes_of (c file).seen) e.seen.text_at e.seen.size text
@@ -114,13 +115,13 @@ stands_by : (root : Root) (s e : StoredEntry) (text : List ℕ) (file : FileName
 stands_by root s e text file c is file_is there =
     subst (λ (f : StoredEntry). StandsAt (bytes_of (c (epoch_file_of root f.epoch)).seen) f.seen.text_at f.seen.size text) is (subst (λ (f : FileName). StandsAt (bytes_of (c f).seen) e.seen.text_at e.seen.size text) file_is there)
 
-pub finds_damage : (root : Root) (s e : StoredEntry) (old text : List ℕ) (file : FileName) (named found : Id20) (k : Option Content) → e ≡ s → file ≡ epoch_file_of root e.epoch → found ≡ blob_id_of text
+pub finds_damage : (root : Root) (s e : StoredEntry) (old text : List ℕ) (file : FileName) (named found : ObjectId) (k : Option Content) → e ≡ s → file ≡ epoch_file_of root e.epoch → found ≡ blob_id_of form.Sha1 text
     → WhereTold (λ (c : Content). StandsAt (bytes_of (c file).seen) e.seen.text_at e.seen.size text) k → WhereTold (FindsText root s old old (Err (Damaged named found))) k
 finds_damage root s e old text file named found k is file_is found_is stands =
     where_so _ (FindsText root s old old (Err (Damaged named found))) k stands (λ c there. (text, stands_by root s e text file c is file_is there, found_is))
 
 -- What is said of the text that is read.
-pub gives_text : (s e : StoredEntry) (old new text : List ℕ) → e ≡ s → length text ≡ e.seen.size → blob_id_of text ≡ e.seen.blob → new ≡ old ++ text → GivesText s old new (Ok (tt {0}))
+pub gives_text : (s e : StoredEntry) (old new text : List ℕ) → e ≡ s → length text ≡ e.seen.size → blob_id_of form.Sha1 text ≡ e.seen.blob → new ≡ old ++ text → GivesText s old new (Ok (tt {0}))
 gives_text s e old new text is size blob added = (text, record { size = size ∙ ap (λ (f : StoredEntry). f.seen.size) is; blob = blob ∙ ap (λ (f : StoredEntry). f.seen.blob) is }, added)
 
 pub finds_text : (root : Root) (s e : StoredEntry) (old new text : List ℕ) (file : FileName) (k : Option Content) → e ≡ s → file ≡ epoch_file_of root e.epoch → new ≡ old ++ text
@@ -130,6 +131,6 @@ finds_text root s e old new text file k is file_is added stands =
 
 -- The same for a file by its name.
 pub right_text_in : (v : StoreState) (cache : List ℕ) (a : Archive) (k : Option Content) (i : ℕ) (e : StoredEntry) (text : List ℕ) (file : FileName) → IsStoreWith v cache a k → slice_get v.entries i ≡ Some e → file ≡ epoch_file_of v.root e.epoch
-    → WhereTold (λ (c : Content). StandsAt (bytes_of (c file).seen) e.seen.text_at e.seen.size text) k → (text_if (slice_get a.entries i) ≡ Some text) × (blob_id_of text ≡ e.seen.blob)
+    → WhereTold (λ (c : Content). StandsAt (bytes_of (c file).seen) e.seen.text_at e.seen.size text) k → (text_if (slice_get a.entries i) ≡ Some text) × (blob_id_of form.Sha1 text ≡ e.seen.blob)
 right_text_in v cache a k i e text file own here file_is stands =
     right_text v cache a k i e text own here (subst (λ (f : FileName). WhereTold (λ (c : Content). StandsAt (bytes_of (c f).seen) e.seen.text_at e.seen.size text) k) file_is stands)

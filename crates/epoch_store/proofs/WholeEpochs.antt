@@ -2,6 +2,7 @@
 use Rattle.std.specs.Prelude.{◌≡◌, ◌⊎◌, ◌-◌, ◌<◌, ◌≤◌, ℕ, zero, suc, true, false, List, [], ◌∷◌, ◌++◌, length, take, get_or, Option, Some, None, Ok, refl}
 use Rattle.std.proofs.Common.{◌∙◌, sym, ap, subst, inl, inr, arith, length-append}
 use Rattle.std.proofs.lemmas.List.{append-nil}
+use Rattle.arch_base.specs.declared.ids.Form.TheVariants as form
 use Rattle.disk_model.specs.declared.name.FileName.{FileName}
 use Rattle.disk_model.specs.Disk.{Content, WhereTold, bytes_of}
 use Rattle.arch_model.specs.Archives.{Entry, Archive, in_epoch, has_entry}
@@ -18,7 +19,7 @@ use Rattle.store_finding.proofs.FrontParts.{none_above, disk_fronts}
 -- An epoch without bytes has no entry.
 empty : (es : List Entry) → length (epoch_bytes es) ≡ 0 → es ≡ []
 empty [] none = refl
-empty (e ∷ es) none = let parts = length-append magic (entries_bytes None (e ∷ es)) in absurd (omega (arith, parts, none))
+empty (e ∷ es) none = let parts = length-append (magic form.Sha1) (entries_bytes None (e ∷ es)) in absurd (omega (arith, parts, none))
 
 -- An epoch with bytes has an entry.
 some : (es : List Entry) → 0 < length (epoch_bytes es) → has_entry es ≡ true

@@ -1,7 +1,8 @@
 -- Which commands what is kept accepts, what they leave of it, and which files they keep.
 use Rattle.std.specs.Prelude.{◌-◌, ◌^◌, min, Bool, not, ◌&&◌, ◌||◌, ◌≡◌, ◌≢◌, ◌⊎◌, ◌+◌, ◌<◌, ◌≤◌, ◌==◌, ℕ, false, List, [], ◌∷◌, ◌++◌, length, get_or, Option, Some, None, if◌then◌else◌, Result, Ok, Err}
 use Rattle.std.specs.List.{AllZip, Contains}
-use Rattle.arch_base.specs.declared.ids.Id20.{Id20}
+use Rattle.arch_base.specs.declared.ids.ObjectId.{ObjectId}
+use Rattle.arch_base.specs.declared.ids.Form.TheVariants as form
 use Rattle.disk_model.specs.Disk.{Files, Content, bytes_of}
 use Rattle.disk_model.specs.Sizes.{epoch_count}
 use Rattle.mail_reader.specs.StorageTexts.{IsStorageText}
@@ -73,7 +74,7 @@ pub record MayEnd (v : StoreState) (number : ℕ) (text : List ℕ) : Type 0 whe
   pub is_live : Contains (live_kept v.entries) entry
   pub number_is : entry.number ≡ number
   pub id : own_id text ≡ Some entry.seen.id
-  pub blob : blob_id_of text ≡ entry.seen.blob
+  pub blob : blob_id_of form.Sha1 text ≡ entry.seen.blob
 
 -- Where the next entry of an archive is written: its epoch, and the file of that epoch, after its
 -- bytes and its last commit. If the epoch has no bytes, it is a new file of this generation.
@@ -94,7 +95,7 @@ abbrev pub next_sequence : ℕ → ℕ
 next_sequence n = min (n + 1) (2 ^ 64 - 1)
 
 -- The place after the bytes of an epoch of a root, or at the front of a new file.
-abbrev pub place_of : Root → ℕ → Option Id20 → NextPlace
+abbrev pub place_of : Root → ℕ → Option ObjectId → NextPlace
 place_of root epoch parent = record {
   epoch = epoch;
   generation = if (get_or root.epochs epoch no_place).length == 0 then next_sequence root.sequence
@@ -111,7 +112,7 @@ pub record AddsEntry (old new : StoreState) (text : List ℕ) : Type 0 where
   pub kind : entry.seen.kind ≡ Message
   pub number : entry.number ≡ old.root.next
   pub id : own_id text ≡ Some entry.seen.id
-  pub blob : entry.seen.blob ≡ blob_id_of text
+  pub blob : entry.seen.blob ≡ blob_id_of form.Sha1 text
   pub content : entry.seen.content ≡ content_id_of text
   pub next : new.root.next ≡ old.root.next + 1
   pub config : new.root.config ≡ old.root.config
@@ -124,7 +125,7 @@ pub record EndsEntry (old new : StoreState) (number : ℕ) (text : List ℕ) : T
   pub kind : entry.seen.kind ≡ Deletion
   pub number_is : entry.number ≡ number
   pub id : own_id text ≡ Some entry.seen.id
-  pub blob : entry.seen.blob ≡ blob_id_of text
+  pub blob : entry.seen.blob ≡ blob_id_of form.Sha1 text
   pub content : entry.seen.content ≡ content_id_of text
   pub next : new.root.next ≡ old.root.next
   pub config : new.root.config ≡ old.root.config
@@ -151,7 +152,7 @@ pub record RootGoesOn (old new : Root) : Type 0 where
 
 -- A purge would be accepted by what is kept: the archive is no mirror, and an entry is the message
 -- with the number and has this blob id.
-pub record MayPurge (v : StoreState) (number : ℕ) (blob : Id20) : Type 0 where
+pub record MayPurge (v : StoreState) (number : ℕ) (blob : ObjectId) : Type 0 where
   pub writable : v.root.config.mirror ≡ false
   pub entry : StoredEntry
   pub is_there : Contains v.entries entry
@@ -161,24 +162,24 @@ pub record MayPurge (v : StoreState) (number : ℕ) (blob : Id20) : Type 0 where
 
 -- What is kept of an edit that would be accepted: a purge would be, a number is left, the new text is a
 -- storage text, and no live message of the archive without the old text has its own id.
-pub record MayEdit (v : StoreState) (number : ℕ) (blob : Id20) (text : List ℕ) : Type 0 where
+pub record MayEdit (v : StoreState) (number : ℕ) (blob : ObjectId) (text : List ℕ) : Type 0 where
   pub purge : MayPurge v number blob
   pub number_left : v.root.next ≤ v.root.config.max
   pub storage : IsStorageText text
   pub id : (a : Archive) (n : ℕ) (old : List ℕ) → KeepsArchive v a
-      → text_of (messages a.entries) n ≡ Some old → blob_id_of old ≡ blob
+      → text_of (messages a.entries) n ≡ Some old → blob_id_of form.Sha1 old ≡ blob
       → IsFree (live (without_text a.entries old)) text
 
 -- What a purge leaves of what is kept: the entries but those with a blob id, in order. The next number
 -- and the settings stay.
-pub record DropsEntries (old new : StoreState) (blob : Id20) : Type 0 where
+pub record DropsEntries (old new : StoreState) (blob : ObjectId) : Type 0 where
   pub entries : AllZip KeptOf (without_blob old.entries blob.0) new.entries
   pub next : new.root.next ≡ old.root.next
   pub config : new.root.config ≡ old.root.config
 
 -- What an edit leaves of what is kept: the entries but those with a blob id, and one more message with
 -- the next number and the ids of a text.
-pub record EditsEntries (old new : StoreState) (blob : Id20) (text : List ℕ) : Type 0 where
+pub record EditsEntries (old new : StoreState) (blob : ObjectId) (text : List ℕ) : Type 0 where
   pub front : List StoredEntry
   pub entry : StoredEntry
   pub entries : new.entries ≡ front ++ entry ∷ []
@@ -186,7 +187,7 @@ pub record EditsEntries (old new : StoreState) (blob : Id20) (text : List ℕ) :
   pub kind : entry.seen.kind ≡ Message
   pub number : entry.number ≡ old.root.next
   pub id : own_id text ≡ Some entry.seen.id
-  pub blob_is : entry.seen.blob ≡ blob_id_of text
+  pub blob_is : entry.seen.blob ≡ blob_id_of form.Sha1 text
   pub content : entry.seen.content ≡ content_id_of text
   pub next : new.root.next ≡ old.root.next + 1
   pub config : new.root.config ≡ old.root.config
@@ -204,7 +205,7 @@ pub record GoesOnAnew (old new : Root) : Type 0 where
       ⊎ (get_or new.epochs e no_place ≡ no_place))
 
 -- An epoch has an entry with a blob id.
-abbrev pub HasBlob : List StoredEntry → Id20 → ℕ → Type 0
+abbrev pub HasBlob : List StoredEntry → ObjectId → ℕ → Type 0
 HasBlob entries blob epoch = (e : StoredEntry) × Contains entries e × (e.epoch ≡ epoch)
     × (e.seen.blob ≡ blob)
 
@@ -215,7 +216,7 @@ IsMadeAnew root epoch = ((get_or root.epochs epoch no_place).generation ≡ root
 
 -- Which files a purge keeps. Each epoch without an entry with the blob id stays in its file, which is as
 -- long as before. Each other one is in a new file, or has none.
-pub record KeepsFiles (old new : StoreState) (blob : Id20) : Type 0 where
+pub record KeepsFiles (old new : StoreState) (blob : ObjectId) : Type 0 where
   pub kept : (e : ℕ) → e < epoch_count → (HasBlob old.entries blob e → ⊥)
       → get_or new.root.epochs e no_place ≡ get_or old.root.epochs e no_place
   pub anew : (e : ℕ) → e < epoch_count → HasBlob old.entries blob e → IsMadeAnew new.root e
@@ -230,7 +231,7 @@ EpochFileGrows old new epoch = ((0 < (get_or old.epochs epoch no_place).length)
 
 -- Which files an edit keeps: those that a purge keeps. But that of the epoch of the new entry, which is
 -- the last one, grows, unless the epoch loses an entry.
-pub record EditsFiles (old new : StoreState) (blob : Id20) : Type 0 where
+pub record EditsFiles (old new : StoreState) (blob : ObjectId) : Type 0 where
   pub front : List StoredEntry
   pub entry : StoredEntry
   pub entries : new.entries ≡ front ++ entry ∷ []

@@ -1,7 +1,8 @@
 -- Private: what writing an entry appends to the files that a root names, and the root that names it
 -- then.
 use Rattle.std.specs.Prelude.{◌≡◌, ◌⊎◌, ◌+◌, ◌*◌, ℕ, List, [], ◌∷◌, ◌++◌, length, set, Some}
-use Rattle.arch_base.specs.declared.ids.Id20.{Id20}
+use Rattle.arch_base.specs.declared.ids.ObjectId.{ObjectId}
+use Rattle.arch_base.specs.declared.ids.Form.TheVariants as form
 use Rattle.arch_model.specs.Archives.{Archive}
 use Rattle.arch_model.specs.Delivery.{new_epoch}
 use Rattle.arch_model.specs.Validity.{IsArchive}
@@ -33,14 +34,14 @@ numbers_by Message = 1
 numbers_by Deletion = 0
 
 -- The bytes that an entry appends to the map: the record of a message, none of a deletion.
-abbrev pub line_by : EntryKind → ℕ → ℕ → Id20 → List ℕ
+abbrev pub line_by : EntryKind → ℕ → ℕ → ObjectId → List ℕ
 line_by Message number epoch blob =
     record_bytes (record { number = number; epoch = epoch; blob = blob })
 line_by Deletion number epoch blob = []
 
 -- The same of a new entry, after the records of a root.
 abbrev pub line_of : Root → NextPlace → NewEntry → List ℕ
-line_of root p e = line_by e.kind root.next p.epoch (blob_id_of e.text.now)
+line_of root p e = line_by e.kind root.next p.epoch (blob_id_of form.Sha1 e.text.now)
 
 -- The root after an entry of a kind. The epoch's file ends here, and the map has one more record for
 -- each number that was taken.
@@ -51,7 +52,7 @@ root_after root kind p end_ = record {
   next = root.next + numbers_by kind;
   map = record {
     generation = root.map.generation;
-    length = root.map.length + numbers_by kind * record_size;
+    length = root.map.length + numbers_by kind * record_size form.Sha1;
   };
   epochs = set root.epochs p.epoch (record { generation = p.generation; length = end_ });
   cache = root.cache;
@@ -91,7 +92,7 @@ pub record Enters (kind : EntryKind) (number : ℕ) (text : List ℕ) (arrived :
     : Type 0 where
   pub valid : IsArchive b
   pub is : b ≡ with_new a kind number (new_epoch a) text arrived
-  pub map_is : map_bytes b ≡ map_bytes a ++ line_by kind a.next (new_epoch a) (blob_id_of text)
+  pub map_is : map_bytes b ≡ map_bytes a ++ line_by kind a.next (new_epoch a) (blob_id_of form.Sha1 text)
 
 -- One more entry follows those that were kept: it has a kind, a number, and the ids of a text. The
 -- settings stay.
@@ -102,7 +103,7 @@ pub record EntersEntry (kind_ : EntryKind) (number_ : ℕ) (text : List ℕ) (ol
   pub kind : entry.seen.kind ≡ kind_
   pub number : entry.number ≡ number_
   pub id : own_id text ≡ Some entry.seen.id
-  pub blob : entry.seen.blob ≡ blob_id_of text
+  pub blob : entry.seen.blob ≡ blob_id_of form.Sha1 text
   pub content : entry.seen.content ≡ content_id_of text
   pub next : new.root.next ≡ old.root.next + numbers_by kind_
   pub config : new.root.config ≡ old.root.config

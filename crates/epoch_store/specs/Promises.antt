@@ -2,7 +2,8 @@
 use Rattle.std.specs.Prelude.{◌≡◌, ◌+◌, ◌-◌, ◌<◌, ◌≤◌, ◌^◌, ℕ, List, [], Option, Some, None, Result, Err, IfOk, OnOk, OnErr}
 use Rattle.arch_base.specs.Counts.{RoseIf}
 use Rattle.arch_base.specs.declared.config.Config.{Config}
-use Rattle.arch_base.specs.declared.ids.Id20.{Id20}
+use Rattle.arch_base.specs.declared.ids.ObjectId.{ObjectId}
+use Rattle.arch_base.specs.declared.ids.Form.TheVariants as form
 use Rattle.disk_model.specs.declared.disk.Disk.{Ghosts as Disk}
 use Rattle.disk_model.specs.declared.name.FileName.{FileName}
 use Rattle.disk_model.specs.Disk.{Content, BothTold, WhereTold}
@@ -122,20 +123,20 @@ pub record EndsMessage (number : ℕ) (text : List ℕ) (arrived : ℕ) (a b : A
   pub is : b ≡ with_deletion a number (new_epoch a) text arrived
 
 -- The second archive is the first without a text that has this blob id, which one of its messages has.
-pub record Drops (blob : Id20) (a b : Archive) : Type 0 where
+pub record Drops (blob : ObjectId) (a b : Archive) : Type 0 where
   pub number : ℕ
   pub text : List ℕ
   pub shown : text_of (messages a.entries) number ≡ Some text
-  pub blob_is : blob_id_of text ≡ blob
+  pub blob_is : blob_id_of form.Sha1 text ≡ blob
   pub is : b ≡ without_entries a text
 
 -- The second archive is the first with a message in place of a live text that has this blob id. No other
 -- text has the blob id of the message.
-pub record Replaces (blob : Id20) (text : List ℕ) (arrived : ℕ) (a b : Archive) : Type 0 where
+pub record Replaces (blob : ObjectId) (text : List ℕ) (arrived : ℕ) (a b : Archive) : Type 0 where
   pub number : ℕ
   pub gone : List ℕ
   pub shown : text_of (live a.entries) number ≡ Some gone
-  pub blob_is : blob_id_of gone ≡ blob
+  pub blob_is : blob_id_of form.Sha1 gone ≡ blob
   pub alone : collision (without_entries a gone).entries text ≡ None
   pub is : b ≡ with_entry (without_entries a gone) (new_epoch (without_entries a gone)) text arrived
 

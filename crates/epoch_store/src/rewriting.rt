@@ -4,6 +4,7 @@ ghost use Rattle.std.specs.Prelude.{◌≡◌, ◌+◌, ◌-◌, ◌<◌, ◌≤
 ghost use Rattle.std.specs.List.{AllZip, Contains};
 ghost use Rattle.arch_base.specs.Counts.{RoseIf};
 ghost use Rattle.arch_base.specs.Moments.{last_moment};
+ghost use Rattle.arch_base.specs.declared.ids.Form.TheVariants as form;
 ghost use Rattle.disk_model.specs.Disk.{WhereTold};
 ghost use Rattle.disk_model.specs.Sizes.{greatest_epoch};
 ghost use Rattle.mail_reader.specs.StorageTexts.{IsStorageText};
@@ -87,7 +88,7 @@ impl Store {
         moment: u64,
     ) -> Result<(), StoreRefusal>
         requires may { (number : ℕ) × MayEdit self.old number old.now text.now }
-        requires ids { ids.now ≡ text_ids_of text.now }
+        requires ids { ids.now ≡ text_ids_of form.Sha1 text.now }
         requires moment { moment ≤ last_moment }
         requires sizes { WhereTold (StoreHasSizes self.old) (D.content disk.old) }
         ensures changes { ChangesStore D.Disk disk.old disk.new
@@ -212,7 +213,7 @@ impl Store {
         ids: &TextIds,
         moment: u64,
     ) -> Result<(), StoreRefusal>
-        requires ids { ids.now ≡ text_ids_of text.now }
+        requires ids { ids.now ≡ text_ids_of form.Sha1 text.now }
         requires epochs { InEpochs planned.old.entries }
         requires storage { IsStorageText text.now }
         requires moment { moment ≤ last_moment }

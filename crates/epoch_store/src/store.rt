@@ -13,6 +13,7 @@ ghost use Rattle.epoch_file.specs.Appending.{written_of};
 ghost use Rattle.epoch_file.specs.Lying.{EntryLiesIn};
 ghost use Rattle.root_slots.specs.Valid.{IsRoot};
 ghost use Rattle.arch_base.specs.Configs.{IsConfig};
+ghost use Rattle.arch_base.specs.declared.ids.Form.TheVariants as form;
 ghost use Rattle.store_finding.specs.Extents.{AreUpToEpoch};
 ghost use Rattle.epoch_store.specs.declared.refusal.InitRefusal.{InitRefusal};
 ghost use Rattle.epoch_store.specs.Promises.{AddsMessage, Appends, ChangesStore, EndsMessage, MakesArchive};
@@ -160,14 +161,14 @@ impl Store {
         requires written { written.now ≡ written_of place.now.length entry.now }
         requires short { place.now.length < 2 ^ 62 }
         requires parent { entry.now.parent ≡ place.now.parent }
-        requires ids { entry.now.ids ≡ text_ids_of entry.now.text.now }
+        requires ids { entry.now.ids ≡ text_ids_of form.Sha1 entry.now.text.now }
         requires id { own_id_in entry.now.text.now ≡ Some id }
         ensures lies { EntryLiesIn place.now.length written.now.end result.seen }
         ensures epoch { result.epoch ≡ place.now.epoch }
         ensures number { result.number ≡ number }
         ensures kind { result.seen.kind ≡ entry.now.kind }
         ensures id { result.seen.id ≡ id }
-        ensures blob { result.seen.blob ≡ blob_id_of entry.now.text.now }
+        ensures blob { result.seen.blob ≡ blob_id_of form.Sha1 entry.now.text.now }
         ensures content { result.seen.content ≡ content_id_of entry.now.text.now }
         ensures stored { (a : Archive) → KeepsArchive self.now a
             → IsNextPlace self.now.root a (next_sequence self.now.root.sequence) place.now
@@ -219,7 +220,7 @@ impl Store {
     ) -> Result<(), StoreRefusal>
         requires id { IsSome (own_id_in text.now) }
         requires left { self.old.root.next + numbers_by kind ≤ 2147483648 }
-        requires ids { ids.now ≡ text_ids_of text.now }
+        requires ids { ids.now ≡ text_ids_of form.Sha1 text.now }
         requires moment { moment ≤ last_moment }
         requires sizes { WhereTold (StoreHasSizes self.old) (D.content disk.old) }
         ensures changes { ChangesStore D.Disk disk.old disk.new
@@ -270,7 +271,7 @@ impl Store {
         moment: u64,
     ) -> Result<(), StoreRefusal>
         requires accepts { Accepts self.old text.now }
-        requires ids { ids.now ≡ text_ids_of text.now }
+        requires ids { ids.now ≡ text_ids_of form.Sha1 text.now }
         requires moment { moment ≤ last_moment }
         requires sizes { WhereTold (StoreHasSizes self.old) (D.content disk.old) }
         ensures changes { ChangesStore D.Disk disk.old disk.new
@@ -299,7 +300,7 @@ impl Store {
         moment: u64,
     ) -> Result<(), StoreRefusal>
         requires may { MayEnd self.old number text.now }
-        requires ids { ids.now ≡ text_ids_of text.now }
+        requires ids { ids.now ≡ text_ids_of form.Sha1 text.now }
         requires moment { moment ≤ last_moment }
         requires sizes { WhereTold (StoreHasSizes self.old) (D.content disk.old) }
         ensures changes { ChangesStore D.Disk disk.old disk.new

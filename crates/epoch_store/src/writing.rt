@@ -3,6 +3,7 @@
 ghost use Rattle.std.specs.Prelude.{◌≡◌, ◌≤◌, ◌<◌, ◌+◌, ◌-◌, ◌^◌, Err, IfOk, OnOk, length};
 ghost use Rattle.arch_base.specs.Counts.{HasCause, RoseIf};
 ghost use Rattle.arch_base.specs.Moments.{last_moment};
+ghost use Rattle.arch_base.specs.declared.ids.Form.TheVariants as form;
 ghost use Rattle.disk_model.specs.Beside.{RunsBeside};
 ghost use Rattle.disk_model.specs.Disk.{BothTold, WhereTold, IsAtMostLength};
 ghost use Rattle.disk_model.specs.Moments.{LeavesOnly};
@@ -114,7 +115,7 @@ fn write_files<D: Disk>(
     requires place { place.now ≡ place_of root.now place.now.epoch place.now.parent }
     requires short { place.now.length < 2 ^ 62 }
     requires sizes { WhereTold (HasPartSizes root.now) (D.content disk.old) }
-    requires ids { entry.now.ids ≡ text_ids_of entry.now.text.now }
+    requires ids { entry.now.ids ≡ text_ids_of form.Sha1 entry.now.text.now }
     requires moment { entry.now.moment ≤ last_moment }
     ensures crash_beside { RunsBeside D.Disk (bounds_of root.now)
         disk.old disk.new }
@@ -150,7 +151,7 @@ pub(crate) fn write_entry<D: Disk>(
     requires short { place.now.length < 2 ^ 62 }
     requires left { root.now.next + numbers_by entry.now.kind ≤ 2147483648 }
     requires sizes { WhereTold (HasPartSizes root.now) (D.content disk.old) }
-    requires ids { entry.now.ids ≡ text_ids_of entry.now.text.now }
+    requires ids { entry.now.ids ≡ text_ids_of form.Sha1 entry.now.text.now }
     requires moment { entry.now.moment ≤ last_moment }
     // At each moment a crash leaves files that stand for the parts before, or for those with the entry.
     ensures crash { (parts : Parts)

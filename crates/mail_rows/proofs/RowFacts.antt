@@ -3,7 +3,8 @@ use Rattle.std.proofs.Common.{◌≡◌, ℕ, List, [], Option, Some, None, arit
 use Rattle.std.specs.Prelude.{ℤ, option_map, length}
 use Rattle.std.proofs.lemmas.Int.{ints}
 use Rattle.std.proofs.lemmas.Option.{same_Some, none-some}
-use Rattle.arch_base.specs.declared.ids.Id20.{Id20}
+use Rattle.arch_base.specs.declared.ids.ObjectId.{ObjectId}
+use Rattle.arch_base.specs.declared.ids.Form.TheVariants as form
 use Rattle.git_objects.specs.Commits.{IsCommitZone}
 use Rattle.git_objects.specs.Objects.{blob_id_of}
 use Rattle.mail_commits.specs.Commits.{commit_of, written_at}
@@ -50,11 +51,11 @@ unfolding id_fact
 id-none text e = ap id_or_nothing e
 
 -- The author and the date of the commit that keeps a text.
-pub commit-author : (text : List ℕ) (tree : Id20) (parent : Option Id20) (moment : ℕ) → (commit_of text tree parent moment).author ≡ from_fact text
+pub commit-author : (text : List ℕ) (tree : ObjectId) (parent : Option ObjectId) (moment : ℕ) → (commit_of text tree parent moment).author ≡ from_fact text
 unfolding commit_of
 commit-author text tree parent moment = refl
 
-pub commit-date : (text : List ℕ) (tree : Id20) (parent : Option Id20) (moment secs : ℕ) (zone : ℤ) → secs ≡ (commit_of text tree parent moment).secs → zone ≡ (commit_of text tree parent moment).zone
+pub commit-date : (text : List ℕ) (tree : ObjectId) (parent : Option ObjectId) (moment secs : ℕ) (zone : ℤ) → secs ≡ (commit_of text tree parent moment).secs → zone ≡ (commit_of text tree parent moment).zone
     → let date : Moment = record { secs = secs; zone = zone } in date ≡ written_at (date_fact text) moment
 unfolding commit_of
 commit-date text tree parent moment secs zone s z = rw (s, z) refl
@@ -67,8 +68,8 @@ zone_fits zone h =
     omega (arith, ints)
 
 -- A row of the facts of a text is its row.
-pub row-made : (number : ℕ) (text : List ℕ) (arrived : ℕ) (blob : Id20) (id : List ℕ) (refs : List (List ℕ)) (subject from : List ℕ) (date : Moment) (size wire mbox lines : ℕ) (over content : List ℕ)
-    → blob ≡ blob_id_of text → id ≡ id_fact text → refs ≡ refs_of text → subject ≡ subject_fact text → from ≡ from_fact text → date ≡ written_at (date_fact text) arrived → size ≡ length text
+pub row-made : (number : ℕ) (text : List ℕ) (arrived : ℕ) (blob : ObjectId) (id : List ℕ) (refs : List (List ℕ)) (subject from : List ℕ) (date : Moment) (size wire mbox lines : ℕ) (over content : List ℕ)
+    → blob ≡ blob_id_of form.Sha1 text → id ≡ id_fact text → refs ≡ refs_of text → subject ≡ subject_fact text → from ≡ from_fact text → date ≡ written_at (date_fact text) arrived → size ≡ length text
     → wire ≡ length (wire_of text) → mbox ≡ length (mbox_of text) → lines ≡ feeds_of (body_of text) → over ≡ over_of text → content ≡ content_id_of text
     → let made : Row = record { number = number; blob = blob; id = id; refs = refs; subject = subject; from = from; date = date; arrived = arrived; size = size; wire = wire; mbox = mbox; lines = lines; over = over; content = content } in
     made ≡ row_of number text arrived

@@ -1,6 +1,7 @@
 //! Makes the row of a mail.
 //! Allocates.
 ghost use Rattle.std.specs.Prelude.{◌≡◌, length, IfOk};
+ghost use Rattle.arch_base.specs.declared.ids.Form.TheVariants as form;
 ghost use Rattle.mail_commits.specs.Commits.{written_at};
 ghost use Rattle.mail_commits.specs.Ids.{text_ids_of};
 ghost use Rattle.mail_commits.specs.Facts.{from_fact, subject_fact, date_fact};
@@ -35,7 +36,7 @@ pub fn row_of(
     arrived: u64,
 ) -> Result<Row, NoMemory>
     requires text { IsStorageText text.now }
-    requires ids { ids.now ≡ text_ids_of text.now }
+    requires ids { ids.now ≡ text_ids_of form.Sha1 text.now }
     ensures { IfOk result (λ row. row ≡ row_fact number text.now arrived) }
 {
     let heading = heading_of(alloc, text, &ids.blob, arrived)?;

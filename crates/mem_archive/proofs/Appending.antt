@@ -3,7 +3,8 @@ use Rattle.std.proofs.Common.{◌≡◌, ◌+◌, ◌≤◌, ℕ, Bool, true, fa
 use Rattle.std.specs.Str.{bytes_eq}
 use Rattle.std.proofs.lemmas.Slice.Eq.{bytes_eq-Decides}
 use Rattle.arch_base.specs.declared.config.Config.{Config}
-use Rattle.arch_base.specs.declared.ids.Id20.{Id20}
+use Rattle.arch_base.specs.declared.ids.ObjectId.{ObjectId}
+use Rattle.arch_base.specs.declared.ids.Form.TheVariants as form
 use Rattle.git_objects.specs.Objects.{blob_id_of}
 use Rattle.git_objects.specs.declared.entry_kind.EntryKind.{EntryKind}
 use Rattle.git_objects.specs.declared.entry_kind.EntryKind.TheVariants.{Message, Deletion}
@@ -21,8 +22,8 @@ use Rattle.mem_archive.proofs.Ends.{NewEnd, IsEpochEnd-new, IsEpochEnd-in, end-a
 use Rattle.mem_archive.proofs.Keeping.{has_id}
 
 -- Where each entry with the blob id of a text has the text, none collides with it.
-same_id : (i j : Id20) → i.0 ≡ j.0 → i ≡ j
-same_id i j same = ap (λ (l : List ℕ). let id : Id20 = record { 0 = l } in id) same
+same_id : (i j : ObjectId) → i.0 ≡ j.0 → i ≡ j
+same_id i j same = ap (λ (l : List ℕ). let id : ObjectId = record { 0 = l } in id) same
 
 clash_step : (b t : Bool) (n : ℕ) (rest : Option ℕ) → (b ≡ true → t ≡ true) → rest ≡ None → (if b && not t then Some n else rest) ≡ None
 clash_step true true n rest same none = none
@@ -32,12 +33,12 @@ clash_step false t n rest same none = none
 pub none_collides : (es : List Entry) (text : List ℕ) → Agrees text es → collision es text ≡ None
 none_collides [] text agrees = refl
 none_collides (e ∷ es) text agrees =
-    let blob = (blob_id_of text).0 in
-    let own = (blob_id_of e.text).0 in
-    clash_step (bytes_eq blob own) (bytes_eq text e.text) e.number (collision es text) (λ hit. (bytes_eq-Decides text e.text).1 (agrees.0 (same_id (blob_id_of text) (blob_id_of e.text) ((bytes_eq-Decides blob own).0 hit)))) (none_collides es text agrees.1)
+    let blob = (blob_id_of form.Sha1 text).0 in
+    let own = (blob_id_of form.Sha1 e.text).0 in
+    clash_step (bytes_eq blob own) (bytes_eq text e.text) e.number (collision es text) (λ hit. (bytes_eq-Decides text e.text).1 (agrees.0 (same_id (blob_id_of form.Sha1 text) (blob_id_of form.Sha1 e.text) ((bytes_eq-Decides blob own).0 hit)))) (none_collides es text agrees.1)
 
 -- An entry may be appended to an archive, which gives another one, and the end after it is this.
-pub record Appends (a : Archive) (e : Entry) (commit : Id20) (next : End) (wanted : Archive) : Type 0 where
+pub record Appends (a : Archive) (e : Entry) (commit : ObjectId) (next : End) (wanted : Archive) : Type 0 where
   pub follows : EntryMayFollow a e
   pub ends : IsEndAfter a e commit next
   pub gives : appended_as a e ≡ wanted
@@ -60,7 +61,7 @@ module _ (config : Config) (ks : List Kept) (places : List (Option KeptPlace)) (
     small = let high : (end_for_new config.limit end_).epoch ≤ 63 = begin.0.small in let same : (end_for_new config.limit end_).epoch ≡ next.epoch = at_begin.1 in omega (arith, high, same)
 
   -- A new message, in the epoch for it.
-  message_here : (text : List ℕ) (moment : ℕ) (next : End) (commit : Id20) → IsFree (live (entries_of ks)) text → collision (entries_of ks) text ≡ None → length places + 1 ≤ config.max → next ≡ end_after (end_for_new config.limit end_) Message text moment → next.parent ≡ Some commit
+  message_here : (text : List ℕ) (moment : ℕ) (next : End) (commit : ObjectId) → IsFree (live (entries_of ks)) text → collision (entries_of ks) text ≡ None → length places + 1 ≤ config.max → next ≡ end_after (end_for_new config.limit end_) Message text moment → next.parent ≡ Some commit
       → Appends (archive_of config ks places) (message (length places + 1) next.epoch text moment) commit next (with_entry (archive_of config ks places) (new_epoch (archive_of config ks places)) text moment)
   message_here text moment next commit free alone room next_is commit_is = record {
     follows = record {
@@ -78,7 +79,7 @@ module _ (config : Config) (ks : List Kept) (places : List (Option KeptPlace)) (
   there n text shown = live-has (entries_of ks) text (found-has (live (entries_of ks)) n text shown)
 
   -- A new deletion.
-  deletion_here : (n : ℕ) (text : List ℕ) (moment : ℕ) (next : End) (commit : Id20) → text_of (live (entries_of ks)) n ≡ Some text → next ≡ end_after (end_for_new config.limit end_) Deletion text moment → next.parent ≡ Some commit
+  deletion_here : (n : ℕ) (text : List ℕ) (moment : ℕ) (next : End) (commit : ObjectId) → text_of (live (entries_of ks)) n ≡ Some text → next ≡ end_after (end_for_new config.limit end_) Deletion text moment → next.parent ≡ Some commit
       → Appends (archive_of config ks places) (deletion n next.epoch text moment) commit next (with_deletion (archive_of config ks places) n (new_epoch (archive_of config ks places)) text moment)
   deletion_here n text moment next commit shown next_is commit_is = record {
     follows = record {
@@ -93,7 +94,7 @@ module _ (config : Config) (ks : List Kept) (places : List (Option KeptPlace)) (
   }
 
 -- The same of an archive that these stand for.
-pub new-message : (config : Config) (ks : List Kept) (places : List (Option KeptPlace)) (index : Index) (end_ : End) (a : Archive) (text read : List ℕ) (moment number : ℕ) (next : End) (commit : Id20) → archive_of config ks places ≡ a → IsKept config ks places index end_
+pub new-message : (config : Config) (ks : List Kept) (places : List (Option KeptPlace)) (index : Index) (end_ : End) (a : Archive) (text read : List ℕ) (moment number : ℕ) (next : End) (commit : ObjectId) → archive_of config ks places ≡ a → IsKept config ks places index end_
     → IsFree (live a.entries) text → collision a.entries text ≡ None → a.next ≤ a.config.max → next ≡ end_after (end_for_new config.limit end_) Message read moment → read ≡ text → next.parent ≡ Some commit → number ≡ a.next
     → Appends a (message number next.epoch text moment) commit next (with_entry a (new_epoch a) text moment)
 new-message config ks places index end_ a text read moment number next commit is kept free alone room next_is read_is commit_is number_is =
@@ -102,7 +103,7 @@ new-message config ks places index end_ a text read moment number next commit is
     (subst (λ (b : Archive). IsFree (live b.entries) text → collision b.entries text ≡ None → b.next ≤ b.config.max → Appends b (message b.next next.epoch text moment) commit next (with_entry b (new_epoch b) text moment)) is
     (λ free alone room. message_here config ks places index end_ kept text moment next commit free alone room after commit_is) free alone room)
 
-pub new-deletion : (config : Config) (ks : List Kept) (places : List (Option KeptPlace)) (index : Index) (end_ : End) (a : Archive) (n : ℕ) (text read : List ℕ) (moment : ℕ) (next : End) (commit : Id20) → archive_of config ks places ≡ a → IsKept config ks places index end_
+pub new-deletion : (config : Config) (ks : List Kept) (places : List (Option KeptPlace)) (index : Index) (end_ : End) (a : Archive) (n : ℕ) (text read : List ℕ) (moment : ℕ) (next : End) (commit : ObjectId) → archive_of config ks places ≡ a → IsKept config ks places index end_
     → text_of (live a.entries) n ≡ Some text → next ≡ end_after (end_for_new config.limit end_) Deletion read moment → read ≡ text → next.parent ≡ Some commit
     → Appends a (deletion n next.epoch text moment) commit next (with_deletion a n (new_epoch a) text moment)
 new-deletion config ks places index end_ a n text read moment next commit is kept shown next_is read_is commit_is =
@@ -116,7 +117,7 @@ not-later config ks places index end_ a e is kept may =
     let low : last_epoch (entries_of ks) ≤ e.epoch = subst (λ (b : Archive). last_epoch b.entries ≤ e.epoch) (sym is) may.epoch in let last : end_.epoch ≡ last_epoch (entries_of ks) = kept.last in omega (arith, low, last)
 
 -- An entry again, in its epoch.
-pub end-again : (config : Config) (ks : List Kept) (places : List (Option KeptPlace)) (index : Index) (end_ : End) (a : Archive) (e : Entry) (begin next : End) (read : List ℕ) (commit : Id20) → archive_of config ks places ≡ a → IsKept config ks places index end_ → EntryMayFollow a e
+pub end-again : (config : Config) (ks : List Kept) (places : List (Option KeptPlace)) (index : Index) (end_ : End) (a : Archive) (e : Entry) (begin next : End) (read : List ℕ) (commit : ObjectId) → archive_of config ks places ≡ a → IsKept config ks places index end_ → EntryMayFollow a e
     → begin ≡ end_in_epoch e.epoch config.limit end_ → next ≡ end_after begin e.kind read e.moment → read ≡ e.text → next.parent ≡ Some commit → IsEndAfter a e commit next
 end-again config ks places index end_ a e begin next read commit is kept may begin_is next_is read_is commit_is =
     let low : last_epoch (entries_of ks) ≤ e.epoch = subst (λ (b : Archive). last_epoch b.entries ≤ e.epoch) (sym is) may.epoch in
@@ -124,7 +125,7 @@ end-again config ks places index end_ a e begin next read commit is kept may beg
     subst (λ (b : Archive). IsEndAfter b e commit next) is (end-after (archive_of config ks places) e begin next commit new (next_is ∙ ap (λ (t : List ℕ). end_after begin e.kind t e.moment) read_is) commit_is)
 
 -- The numbers that a message leaves out are given first.
-pub again-message : (a : Archive) (e : Entry) (commit : Id20) (next : End) → e.kind ≡ Message → EntryMayFollow a e → IsEndAfter a e commit next → Appends (numbered_to a e.number) e commit next (appended_as a e) × (e.number ≡ greater a.next e.number)
+pub again-message : (a : Archive) (e : Entry) (commit : ObjectId) (next : End) → e.kind ≡ Message → EntryMayFollow a e → IsEndAfter a e commit next → Appends (numbered_to a e.number) e commit next (appended_as a e) × (e.number ≡ greater a.next e.number)
 again-message a e commit next kind_is may after =
     let numbered : IsNumberedAfter Message a e = subst (λ (k : EntryKind). IsNumberedAfter k a e) kind_is may.numbered in
     let now : greater a.next e.number ≡ e.number = greater_end a.next e.number numbered.0 in (
@@ -143,10 +144,10 @@ again-message a e commit next kind_is may after =
     )
 
 -- The same, where the archive, the entry and the commit are as they should be.
-pub appends-same : (a b : Archive) (e f : Entry) (commit other : Id20) (next : End) (wanted : Archive) → b ≡ a → f ≡ e → other ≡ commit → Appends a e commit next wanted → Appends b f other next wanted
+pub appends-same : (a b : Archive) (e f : Entry) (commit other : ObjectId) (next : End) (wanted : Archive) → b ≡ a → f ≡ e → other ≡ commit → Appends a e commit next wanted → Appends b f other next wanted
 appends-same a b e f commit other next wanted same_archive same_entry same_commit appends =
-    subst (λ (c : Id20). Appends b f c next wanted) (sym same_commit) (subst (λ (x : Entry). Appends b x commit next wanted) (sym same_entry) (subst (λ (c : Archive). Appends c e commit next wanted) (sym same_archive) appends))
+    subst (λ (c : ObjectId). Appends b f c next wanted) (sym same_commit) (subst (λ (x : Entry). Appends b x commit next wanted) (sym same_entry) (subst (λ (c : Archive). Appends c e commit next wanted) (sym same_archive) appends))
 
 -- A deletion again.
-pub again-deletion : (a : Archive) (e : Entry) (commit : Id20) (next : End) → EntryMayFollow a e → IsEndAfter a e commit next → Appends a e commit next (appended_as a e)
+pub again-deletion : (a : Archive) (e : Entry) (commit : ObjectId) (next : End) → EntryMayFollow a e → IsEndAfter a e commit next → Appends a e commit next (appended_as a e)
 again-deletion a e commit next may after = record { follows = may; ends = after; gives = refl }

@@ -4,6 +4,7 @@ use Rattle.std.specs.List.{AllByRecursion}
 use Rattle.std.specs.Str.{bytes_eq}
 use Rattle.std.proofs.lemmas.List.{drop_all}
 use Rattle.arch_base.specs.declared.config.Config.{Config}
+use Rattle.arch_base.specs.declared.ids.Form.TheVariants as form
 use Rattle.mail_reader.specs.Ids.{own_id}
 use Rattle.git_objects.specs.Objects.{blob_id_of}
 use Rattle.git_objects.specs.declared.entry_kind.EntryKind.{EntryKind}
@@ -43,7 +44,7 @@ middle P (x ∷ xs) es e all = middle P xs es e all.1
 
 agrees_before : (xs es : List Entry) (e : Entry) → BlobsAgree (xs ++ e ∷ es) → Agrees e.text xs
 agrees_before [] es e agree = tt
-agrees_before (x ∷ xs) es e agree = (middle (λ (f : Entry). blob_id_of f.text ≡ blob_id_of x.text → f.text ≡ x.text) xs es e agree.0, agrees_before xs es e agree.1)
+agrees_before (x ∷ xs) es e agree = (middle (λ (f : Entry). blob_id_of form.Sha1 f.text ≡ blob_id_of form.Sha1 x.text → f.text ≡ x.text) xs es e agree.0, agrees_before xs es e agree.1)
 
 apart_before : (xs : List Entry) (e : Entry) → IdsDiffer (xs ++ e ∷ []) → AllByRecursion (λ (f : Entry). own_id f.text ≢ own_id e.text) xs
 apart_before [] e differ = tt

@@ -2,7 +2,8 @@
 use Rattle.std.specs.Prelude.{◌≡◌, ◌+◌, ◌≤◌, ℕ, Bool, true, false, List, length, Option, Some, None, IsSome, refl, if◌then◌else◌}
 use Rattle.std.proofs.Common.{◌∙◌, sym, ap, subst, arith}
 use Rattle.arch_base.specs.declared.config.Config.{Config}
-use Rattle.arch_base.specs.declared.ids.Id20.{Id20}
+use Rattle.arch_base.specs.declared.ids.ObjectId.{ObjectId}
+use Rattle.arch_base.specs.declared.ids.Form.TheVariants as form
 use Rattle.mail_reader.specs.Ids.{own_id}
 use Rattle.mail_commits.specs.declared.ids.TextIds.{TextIds}
 use Rattle.git_objects.specs.Objects.{blob_id_of}
@@ -47,7 +48,7 @@ module _ (config : Config) (ks : List Kept) (places : List (Option KeptPlace)) (
         let own = some-of (own_id text) comes.storage.id in
         (own.0, own.1, ap (λ (b : Archive). owner (live b.entries) own.0) (sym is) ∙ unowned (entries_of ks) index own.0 kept.indexed (comes.new_id own.0 own.1))
 
-    named : blob_number a.entries (blob_id_of text).0 ≡ number_in index.blobs ids.blob.0
+    named : blob_number a.entries (blob_id_of form.Sha1 text).0 ≡ number_in index.blobs ids.blob.0
     named = ap (λ (i : TextIds). blob_number a.entries i.blob.0) (sym comes.ids_are) ∙ ap (λ (b : Archive). blob_number b.entries ids.blob.0) (sym is) ∙ sym (kept.indexed.blobs ids.blob.0)
 
     module _ (next : ℕ) (next_is : next ≡ a.next) where
@@ -62,17 +63,17 @@ module _ (config : Config) (ks : List Kept) (places : List (Option KeptPlace)) (
       keep-new number may new = (free-text, comes.ids_are, collision-alone a.entries text (named ∙ new), room number may, may.number_is ∙ next_is)
 
       -- So may one that was compared with the same text.
-      pub keep-same : (number : ℕ) (found : ℕ) → MayBeKept config index next text ids number → number_in index.blobs ids.blob.0 ≡ Some found → blob_text a.entries (blob_id_of text).0 ≡ Some text → MayKeep a (Take text ids number)
+      pub keep-same : (number : ℕ) (found : ℕ) → MayBeKept config index next text ids number → number_in index.blobs ids.blob.0 ≡ Some found → blob_text a.entries (blob_id_of form.Sha1 text).0 ≡ Some text → MayKeep a (Take text ids number)
       keep-same number found may first text_is =
           let agree = subst (λ (b : Archive). collision b.entries text ≡ None) is
-          (collision-first (entries_of ks) text text found kept.blobs (ap (λ (b : Archive). blob_number b.entries (blob_id_of text).0) is ∙ named ∙ first) (ap (λ (b : Archive). blob_text b.entries (blob_id_of text).0) is ∙ text_is)
+          (collision-first (entries_of ks) text text found kept.blobs (ap (λ (b : Archive). blob_number b.entries (blob_id_of form.Sha1 text).0) is ∙ named ∙ first) (ap (λ (b : Archive). blob_text b.entries (blob_id_of form.Sha1 text).0) is ∙ text_is)
           ∙ ap (λ (t : Bool). if t then None else Some found) (bytes_eq-refl text text refl)) in
           (free-text, comes.ids_are, agree, room number may, may.number_is ∙ next_is)
 
       -- What a comparison decides.
       pub compared-keeps : (found : ℕ) (held : List ℕ) (v : Verdict) → number_in index.blobs ids.blob.0 ≡ Some found → blob_text a.entries ids.blob.0 ≡ Some held → TakesThis config next text ids v → TakesSame text held v → MayKeep a v
       compared-keeps found held (Take taken other number) first held_is takes same =
-          let text_is : blob_text a.entries (blob_id_of text).0 ≡ Some text = ap (λ (i : TextIds). blob_text a.entries i.blob.0) (sym comes.ids_are) ∙ held_is ∙ ap Some same in
+          let text_is : blob_text a.entries (blob_id_of form.Sha1 text).0 ≡ Some text = ap (λ (i : TextIds). blob_text a.entries i.blob.0) (sym comes.ids_are) ∙ held_is ∙ ap Some same in
           let keeps : MayKeep a (Take text ids number) = keep-same number found (takes.2 index comes) first text_is in
           subst (λ (t : List ℕ). MayKeep a (Take t other number)) (sym takes.0) (subst (λ (i : TextIds). MayKeep a (Take text i number)) (sym takes.1) keeps)
       compared-keeps found held (Refuse reply) first held_is takes same = tt
@@ -83,10 +84,10 @@ module _ (config : Config) (ks : List Kept) (places : List (Option KeptPlace)) (
   judged-keeps next next_is (Refuse reply) may = tt
 
   -- The text that is compared is that of the first entry with the blob id.
-  pub compared-with : (blob : Id20) (found : ℕ) (held : List ℕ) → number_in index.blobs blob.0 ≡ Some found → Some held ≡ text_of (messages a.entries) found → blob_text a.entries blob.0 ≡ Some held
+  pub compared-with : (blob : ObjectId) (found : ℕ) (held : List ℕ) → number_in index.blobs blob.0 ≡ Some found → Some held ≡ text_of (messages a.entries) found → blob_text a.entries blob.0 ≡ Some held
   compared-with blob found held first held_is = sym (blob_in-some config ks places index end_ a is kept blob.0 found (Some held) (sym first) held_is)
 
-  pub compared-decides : (bytes text : List ℕ) (blob : Id20) (found : ℕ) (held : List ℕ) → Compares a bytes text blob found → blob_text a.entries blob.0 ≡ Some held → (moment : ℕ) → delivered a bytes moment ≡ delivered_kept a text moment (unless_same text held found)
+  pub compared-decides : (bytes text : List ℕ) (blob : ObjectId) (found : ℕ) (held : List ℕ) → Compares a bytes text blob found → blob_text a.entries blob.0 ≡ Some held → (moment : ℕ) → delivered a bytes moment ≡ delivered_kept a text moment (unless_same text held found)
   compared-decides bytes text blob found held compares held_is moment = compares.decides (subst (λ (b : Archive). BlobsAgree b.entries) is kept.blobs) held held_is moment
 
 -- The answers to a removal.
@@ -99,12 +100,12 @@ by_text a number moment found writable is = ap (λ (t : Bool). if t then refused
 pub removed-none : (a : Archive) (number moment : ℕ) → a.config.mirror ≡ false → text_of (live a.entries) number ≡ None → removed a number moment ≡ record { archive = a; answer = answer.NotLive number }
 removed-none a number moment writable none = by_text a number moment None writable none
 
-pub removed-some : (a new : Archive) (number moment : ℕ) (text read : List ℕ) (id : Id20) → a.config.mirror ≡ false → text_of (live a.entries) number ≡ Some text → id ≡ blob_id_of read → read ≡ text → new ≡ with_deletion a number (new_epoch a) text moment
+pub removed-some : (a new : Archive) (number moment : ℕ) (text read : List ℕ) (id : ObjectId) → a.config.mirror ≡ false → text_of (live a.entries) number ≡ Some text → id ≡ blob_id_of form.Sha1 read → read ≡ text → new ≡ with_deletion a number (new_epoch a) text moment
     → removed a number moment ≡ record { archive = new; answer = answer.Ok number id }
 removed-some a new number moment text read id writable is id_is read_is new_is =
     by_text a number moment (Some text) writable is
-    ∙ ap (λ (b : Archive). record { archive = b; answer = answer.Ok number (blob_id_of text) }) (sym new_is)
-    ∙ ap (λ (i : Id20). record { archive = new; answer = answer.Ok number i }) (sym (id_is ∙ ap blob_id_of read_is))
+    ∙ ap (λ (b : Archive). record { archive = b; answer = answer.Ok number (blob_id_of form.Sha1 text) }) (sym new_is)
+    ∙ ap (λ (i : ObjectId). record { archive = new; answer = answer.Ok number i }) (sym (id_is ∙ ap (blob_id_of form.Sha1) read_is))
 
 -- The answer of a mirror to a purge, and to an edit.
 pub purged-mirror : (a : Archive) (number : ℕ) → a.config.mirror ≡ true → purged a number ≡ record { archive = a; answer = answer.IsMirror }
@@ -114,7 +115,7 @@ pub edited-mirror : (a : Archive) (number : ℕ) (bytes : List ℕ) (moment : �
 edited-mirror a number bytes moment mirror = ap (λ (t : Bool). if t then refused a answer.IsMirror else edited_text a number bytes moment (text_of (live a.entries) number)) mirror
 
 -- What was done on another archive counts if it was accepted.
-pub unless-ok : (a other new : Archive) (number : ℕ) (id : Id20) (done : Done) → Delivers other (answer.Ok number id) new done → Delivers a (answer.Ok number id) new (unless_refused a done)
+pub unless-ok : (a other new : Archive) (number : ℕ) (id : ObjectId) (done : Done) → Delivers other (answer.Ok number id) new done → Delivers a (answer.Ok number id) new (unless_refused a done)
 unless-ok a other new number id done is = ap (unless_refused a) is
 
 -- A refusal is delivered as it is.

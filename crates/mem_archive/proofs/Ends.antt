@@ -4,7 +4,8 @@ use Rattle.std.proofs.lemmas.List.{append-nil, append_assoc}
 use Rattle.std.proofs.lemmas.List.Elements.{filter-append}
 use Rattle.std.proofs.lemmas.Bool.Decides.{nat_tests}
 use Rattle.std.proofs.lemmas.Option.{same_Some}
-use Rattle.arch_base.specs.declared.ids.Id20.{Id20}
+use Rattle.arch_base.specs.declared.ids.ObjectId.{ObjectId}
+use Rattle.arch_base.specs.declared.ids.Form.TheVariants as form
 use Rattle.arch_model.specs.Archives.{Entry, Archive, in_epoch}
 use Rattle.arch_model.specs.Delivery.{last_epoch, greater, takes_more, new_epoch}
 use Rattle.arch_model.specs.Epochs.{epoch_bytes, entries_bytes, last_commit}
@@ -13,18 +14,18 @@ use Rattle.mem_archive.specs.Memory.{IsEpochEnd, IsEndAfter, end_for_new, end_in
 use Rattle.mem_archive.specs.declared.kept.End.{End}
 use Rattle.arch_model.proofs.EpochLemmas.{entries_bytes-push, last_commit-push}
 
-front_some : (id : Id20) (es : List Entry) → front_bytes (last_commit (Some id) es) ≡ []
+front_some : (id : ObjectId) (es : List Entry) → front_bytes (last_commit (Some id) es) ≡ []
 front_some id [] = refl
-front_some id (e ∷ es) = front_some (commit_id e.kind e.text e.moment (Some id)) es
+front_some id (e ∷ es) = front_some (commit_id form.Sha1 e.kind e.text e.moment (Some id)) es
 
 -- The bytes of an epoch with one more entry.
-pub epoch_bytes-after : (es : List Entry) (e : Entry) → epoch_bytes (es ++ e ∷ []) ≡ epoch_bytes es ++ (front_bytes (last_commit None es) ++ entry_bytes e.kind e.text e.moment (last_commit None es))
-epoch_bytes-after [] e = ap (λ bs. magic ++ bs) (append-nil (entry_bytes e.kind e.text e.moment None))
+pub epoch_bytes-after : (es : List Entry) (e : Entry) → epoch_bytes (es ++ e ∷ []) ≡ epoch_bytes es ++ (front_bytes (last_commit None es) ++ entry_bytes form.Sha1 e.kind e.text e.moment (last_commit None es))
+epoch_bytes-after [] e = ap (λ bs. magic form.Sha1 ++ bs) (append-nil (entry_bytes form.Sha1 e.kind e.text e.moment None))
 epoch_bytes-after (x ∷ es) e =
-    let p : Option Id20 = Some (commit_id x.kind x.text x.moment None) in
-    ap (λ bs. magic ++ bs) (entries_bytes-push None (x ∷ es) e)
-    ∙ sym (append_assoc magic (entries_bytes None (x ∷ es)) (entry_bytes e.kind e.text e.moment (last_commit None (x ∷ es))))
-    ∙ ap (λ bs. (magic ++ entries_bytes None (x ∷ es)) ++ (bs ++ entry_bytes e.kind e.text e.moment (last_commit None (x ∷ es)))) (sym (front_some (commit_id x.kind x.text x.moment None) es))
+    let p : Option ObjectId = Some (commit_id form.Sha1 x.kind x.text x.moment None) in
+    ap (λ bs. magic form.Sha1 ++ bs) (entries_bytes-push None (x ∷ es) e)
+    ∙ sym (append_assoc (magic form.Sha1) (entries_bytes None (x ∷ es)) (entry_bytes form.Sha1 e.kind e.text e.moment (last_commit None (x ∷ es))))
+    ∙ ap (λ bs. (magic form.Sha1 ++ entries_bytes None (x ∷ es)) ++ (bs ++ entry_bytes form.Sha1 e.kind e.text e.moment (last_commit None (x ∷ es)))) (sym (front_some (commit_id form.Sha1 x.kind x.text x.moment None) es))
 
 one_in : (e : Entry) (k : ℕ) (t : Bool) → (if t then e ∷ in_epoch [] k else in_epoch [] k) ≡ (if t then e ∷ [] else [])
 one_in e k true = refl
@@ -74,12 +75,12 @@ pub IsEpochEnd-push : (limit : ℕ) (es : List Entry) (e : Entry) (end_ : End) �
 IsEpochEnd-push limit es e end_ is at =
     let here : List Entry = in_epoch es end_.epoch in
     let more : in_epoch (es ++ e ∷ []) end_.epoch ≡ here ++ e ∷ [] = in_epoch-at es e end_.epoch at in
-    let added : List ℕ = front_bytes end_.parent ++ entry_bytes e.kind e.text e.moment end_.parent in
+    let added : List ℕ = front_bytes end_.parent ++ entry_bytes form.Sha1 e.kind e.text e.moment end_.parent in
     let bytes : epoch_bytes (in_epoch (es ++ e ∷ []) end_.epoch) ≡ epoch_bytes here ++ added =
-    ap epoch_bytes more ∙ epoch_bytes-after here e ∙ ap (λ (p : Option Id20). epoch_bytes here ++ (front_bytes p ++ entry_bytes e.kind e.text e.moment p)) (sym is.parent) in
+    ap epoch_bytes more ∙ epoch_bytes-after here e ∙ ap (λ (p : Option ObjectId). epoch_bytes here ++ (front_bytes p ++ entry_bytes form.Sha1 e.kind e.text e.moment p)) (sym is.parent) in
     record {
       room = omega (arith, is.room, ap length bytes, length-append (epoch_bytes here) added);
-      parent = sym (ap (last_commit None) more ∙ last_commit-push None here e ∙ ap (λ (p : Option Id20). Some (commit_id e.kind e.text e.moment p)) (sym is.parent));
+      parent = sym (ap (last_commit None) more ∙ last_commit-push None here e ∙ ap (λ (p : Option ObjectId). Some (commit_id form.Sha1 e.kind e.text e.moment p)) (sym is.parent));
       small = is.small;
     }
 
@@ -128,12 +129,12 @@ pub IsEpochEnd-in : (limit epoch : ℕ) (es : List Entry) (end_ : End) → IsEpo
 IsEpochEnd-in limit epoch es end_ is last low small = in_step limit epoch es end_ (end_.epoch == epoch) refl is last low small
 
 -- The end and the commit after an entry that is appended there.
-pub end-after : (a : Archive) (e : Entry) (begin next : End) (commit : Id20) → NewEnd a.config.limit a.entries e.epoch begin → next ≡ end_after begin e.kind e.text e.moment → next.parent ≡ Some commit → IsEndAfter a e commit next
+pub end-after : (a : Archive) (e : Entry) (begin next : End) (commit : ObjectId) → NewEnd a.config.limit a.entries e.epoch begin → next ≡ end_after begin e.kind e.text e.moment → next.parent ≡ Some commit → IsEndAfter a e commit next
 end-after a e begin next commit new next_is commit_is =
     let parent : begin.parent ≡ last_commit None (in_epoch a.entries e.epoch) = new.0.parent ∙ ap (λ (n : ℕ). last_commit None (in_epoch a.entries n)) new.1 in
-    let some : Some commit ≡ Some (commit_id e.kind e.text e.moment begin.parent) = sym commit_is ∙ ap (λ (n : End). n.parent) next_is in
+    let some : Some commit ≡ Some (commit_id form.Sha1 e.kind e.text e.moment begin.parent) = sym commit_is ∙ ap (λ (n : End). n.parent) next_is in
     record {
       ends = subst (λ (n : End). IsEpochEnd a.config.limit (a.entries ++ e ∷ []) n) (sym next_is) (IsEpochEnd-push a.config.limit a.entries e begin new.0 (sym new.1));
       epoch = ap (λ (n : End). n.epoch) next_is ∙ new.1;
-      commit_is = same_Some commit (commit_id e.kind e.text e.moment begin.parent) some ∙ ap (commit_id e.kind e.text e.moment) parent;
+      commit_is = same_Some commit (commit_id form.Sha1 e.kind e.text e.moment begin.parent) some ∙ ap (commit_id form.Sha1 e.kind e.text e.moment) parent;
     }

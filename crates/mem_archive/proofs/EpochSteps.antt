@@ -2,7 +2,8 @@
 use Rattle.std.proofs.Common.{◌≡◌, ◌+◌, ◌≤◌, ◌<◌, ◌==◌, ℕ, zero, suc, true, false, List, [], ◌∷◌, ◌++◌, length, take, get_or, Option, Some, None, is_some, refl, sym, ◌∙◌, ap, arith}
 use Rattle.std.proofs.lemmas.List.{append-nil, append_assoc, take_more}
 use Rattle.arch_base.specs.declared.config.Config.{Config}
-use Rattle.arch_base.specs.declared.ids.Id20.{Id20}
+use Rattle.arch_base.specs.declared.ids.ObjectId.{ObjectId}
+use Rattle.arch_base.specs.declared.ids.Form.TheVariants as form
 use Rattle.arch_model.specs.Archives.{Entry, Archive, in_epoch, has_entry}
 use Rattle.arch_model.specs.Epochs.{epoch_bytes, last_commit}
 use Rattle.mail_commits.specs.Entries.{entry_bytes, commit_id}
@@ -19,7 +20,7 @@ of_first items i epoch = in_epoch (entries_of (take i items)) epoch
 
 -- The bytes of an epoch's entries among the first `i` ones are appended, and the last commit is
 -- known.
-abbrev pub HasPushed : List Kept → ℕ → List ℕ → ℕ → List ℕ → Option Id20 → Type 0
+abbrev pub HasPushed : List Kept → ℕ → List ℕ → ℕ → List ℕ → Option ObjectId → Type 0
 HasPushed items epoch old i into parent = (into ≡ old ++ epoch_bytes (of_first items i epoch)) × (parent ≡ last_commit None (of_first items i epoch))
 
 take-one : (items : List Kept) (i : ℕ) (k : Kept) → i < length items → k ≡ get_or items i k → take (i + 1) items ≡ take i items ++ k ∷ []
@@ -28,35 +29,35 @@ take-one items i k l is = take_more items i k l ∙ ap (λ (y : Kept). take i it
 pub pushed-none : (items : List Kept) (epoch : ℕ) (old : List ℕ) → HasPushed items epoch old 0 old None
 pushed-none items epoch old = (sym (append-nil old), refl)
 
-pub pushed-one : (items : List Kept) (epoch : ℕ) (old : List ℕ) (i : ℕ) (k : Kept) (into : List ℕ) (parent : Option Id20) → i < length items → k ≡ get_or items i k → k.epoch ≡ epoch → HasPushed items epoch old i into parent
-    → HasPushed items epoch old (i + 1) (into ++ (front_bytes parent ++ entry_bytes k.kind k.text k.moment parent)) (Some (commit_id k.kind k.text k.moment parent))
+pub pushed-one : (items : List Kept) (epoch : ℕ) (old : List ℕ) (i : ℕ) (k : Kept) (into : List ℕ) (parent : Option ObjectId) → i < length items → k ≡ get_or items i k → k.epoch ≡ epoch → HasPushed items epoch old i into parent
+    → HasPushed items epoch old (i + 1) (into ++ (front_bytes parent ++ entry_bytes form.Sha1 k.kind k.text k.moment parent)) (Some (commit_id form.Sha1 k.kind k.text k.moment parent))
 pushed-one items epoch old i k into parent l is at has =
     let here : List Entry = of_first items i epoch in
     let e : Entry = entry_of k in
     let more : of_first items (i + 1) epoch ≡ here ++ e ∷ [] = ap (λ (ks : List Kept). in_epoch (entries_of ks) epoch) (take-one items i k l is) ∙ ap (λ (es : List Entry). in_epoch es epoch) (entries_of-push (take i items) k) ∙ in_epoch-at (entries_of (take i items)) e epoch at in (
-      ap (λ (bs : List ℕ). bs ++ (front_bytes parent ++ entry_bytes k.kind k.text k.moment parent)) has.0
-          ∙ append_assoc old (epoch_bytes here) (front_bytes parent ++ entry_bytes k.kind k.text k.moment parent)
-          ∙ ap (λ (p : Option Id20). old ++ (epoch_bytes here ++ (front_bytes p ++ entry_bytes k.kind k.text k.moment p))) has.1
+      ap (λ (bs : List ℕ). bs ++ (front_bytes parent ++ entry_bytes form.Sha1 k.kind k.text k.moment parent)) has.0
+          ∙ append_assoc old (epoch_bytes here) (front_bytes parent ++ entry_bytes form.Sha1 k.kind k.text k.moment parent)
+          ∙ ap (λ (p : Option ObjectId). old ++ (epoch_bytes here ++ (front_bytes p ++ entry_bytes form.Sha1 k.kind k.text k.moment p))) has.1
           ∙ ap (λ (bs : List ℕ). old ++ bs) (sym (epoch_bytes-after here e))
           ∙ ap (λ (es : List Entry). old ++ epoch_bytes es) (sym more),
-      ap (λ (p : Option Id20). Some (commit_id k.kind k.text k.moment p)) has.1 ∙ sym (last_commit-push None here e) ∙ ap (last_commit None) (sym more),
+      ap (λ (p : Option ObjectId). Some (commit_id form.Sha1 k.kind k.text k.moment p)) has.1 ∙ sym (last_commit-push None here e) ∙ ap (last_commit None) (sym more),
     )
 
-pub pushed-else : (items : List Kept) (epoch : ℕ) (old : List ℕ) (i : ℕ) (k : Kept) (into : List ℕ) (parent : Option Id20) → i < length items → k ≡ get_or items i k → (k.epoch == epoch) ≡ false → HasPushed items epoch old i into parent
+pub pushed-else : (items : List Kept) (epoch : ℕ) (old : List ℕ) (i : ℕ) (k : Kept) (into : List ℕ) (parent : Option ObjectId) → i < length items → k ≡ get_or items i k → (k.epoch == epoch) ≡ false → HasPushed items epoch old i into parent
     → HasPushed items epoch old (i + 1) into parent
 pushed-else items epoch old i k into parent l is other has =
     let e : Entry = entry_of k in
     let more : of_first items (i + 1) epoch ≡ of_first items i epoch = ap (λ (ks : List Kept). in_epoch (entries_of ks) epoch) (take-one items i k l is) ∙ ap (λ (es : List Entry). in_epoch es epoch) (entries_of-push (take i items) k) ∙ in_epoch-else (entries_of (take i items)) e epoch other in
     (has.0 ∙ ap (λ (es : List Entry). old ++ epoch_bytes es) (sym more), has.1 ∙ ap (last_commit None) (sym more))
 
-some_of : (id : Id20) (es : List Entry) → is_some (last_commit (Some id) es) ≡ true
+some_of : (id : ObjectId) (es : List Entry) → is_some (last_commit (Some id) es) ≡ true
 some_of id [] = refl
-some_of id (e ∷ es) = some_of (commit_id e.kind e.text e.moment (Some id)) es
+some_of id (e ∷ es) = some_of (commit_id form.Sha1 e.kind e.text e.moment (Some id)) es
 
 -- There is a last commit if there is an entry.
 pub last_commit-some : (es : List Entry) → is_some (last_commit None es) ≡ has_entry es
 last_commit-some [] = refl
-last_commit-some (e ∷ es) = some_of (commit_id e.kind e.text e.moment None) es
+last_commit-some (e ∷ es) = some_of (commit_id form.Sha1 e.kind e.text e.moment None) es
 
 take-whole : (items : List Kept) (i : ℕ) → length items ≤ i → take i items ≡ items
 take-whole [] i l = take_nil i where
@@ -67,7 +68,7 @@ take-whole (x ∷ items) zero l = absurd (omega arith)
 take-whole (x ∷ items) (suc i) l = ap (λ ks. x ∷ ks) (take-whole items i (omega arith))
 
 -- All entries are appended.
-pub pushed-all : (a : Archive) (config : Config) (items : List Kept) (places : List (Option KeptPlace)) (epoch : ℕ) (old : List ℕ) (i : ℕ) (into : List ℕ) (parent : Option Id20) → archive_of config items places ≡ a → length items ≤ i → HasPushed items epoch old i into parent
+pub pushed-all : (a : Archive) (config : Config) (items : List Kept) (places : List (Option KeptPlace)) (epoch : ℕ) (old : List ℕ) (i : ℕ) (into : List ℕ) (parent : Option ObjectId) → archive_of config items places ≡ a → length items ≤ i → HasPushed items epoch old i into parent
     → (into ≡ old ++ epoch_bytes (in_epoch a.entries epoch)) × (is_some parent ≡ has_entry (in_epoch a.entries epoch))
 pushed-all a config items places epoch old i into parent is whole has =
     let all : of_first items i epoch ≡ in_epoch a.entries epoch = ap (λ (ks : List Kept). in_epoch (entries_of ks) epoch) (take-whole items i whole) ∙ ap (λ (b : Archive). in_epoch b.entries epoch) is in

@@ -1,6 +1,7 @@
 -- Kept entries without their texts, and their texts by blob ids.
 use Rattle.std.proofs.Common.{◌≡◌, ◌<◌, ◌≤◌, ℕ, zero, suc, Bool, true, false, if◌then◌else◌, List, [], ◌∷◌, ◌++◌, length, get_or, slice_get, Option, Some, None, refl, sym, ap, ◌∙◌, arith}
 use Rattle.arch_base.specs.declared.config.Config.{Config}
+use Rattle.arch_base.specs.declared.ids.Form.TheVariants as form
 use Rattle.std.specs.Str.{bytes_eq}
 use Rattle.git_objects.specs.Objects.{blob_id_of}
 use Rattle.git_objects.specs.declared.entry_kind.EntryKind.{EntryKind}
@@ -51,7 +52,7 @@ number_step false e number text n some none rest = rest some none
 
 blob-both : (es : List Entry) (blob : List ℕ) (n : ℕ) → blob_number es blob ≡ Some n → blob_text es blob ≡ None → ⊥
 blob-both [] blob n some none = absurd (let wrong : None ≡ Some n = some in cc)
-blob-both (e ∷ es) blob n some none = number_step (bytes_eq blob (blob_id_of e.text).0) e (blob_number es blob) (blob_text es blob) n some none (blob-both es blob n)
+blob-both (e ∷ es) blob n some none = number_step (bytes_eq blob (blob_id_of form.Sha1 e.text).0) e (blob_number es blob) (blob_text es blob) n some none (blob-both es blob n)
 
 module _ (config : Config) (ks : List Kept) (places : List (Option KeptPlace)) (index : Index) (end_ : End) (a : Archive) (is : archive_of config ks places ≡ a) (kept : IsKept config ks places index end_) where
   same_lines : (i : ℕ) → slice_get (lines_of ks) i ≡ line_at a.entries i

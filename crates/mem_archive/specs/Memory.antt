@@ -2,7 +2,7 @@
 use Rattle.std.specs.Prelude.{◌≡◌, ◌≢◌, zero, suc, true, false, ◌&&◌, nat_le, option_map, ◌+◌, ◌-◌, ◌<◌, ◌≤◌, slice_get, ◌==◌, ◌||◌, nat_lt, ℕ, take, Bool, Result, Ok, Err, List, [], ◌∷◌, ◌++◌, length, Option, Some, None, IsSome, if◌then◌else◌}
 use Rattle.arch_base.specs.Configs.{IsConfig}
 use Rattle.arch_base.specs.declared.config.Config.{Config}
-use Rattle.arch_base.specs.declared.ids.Id20.{Id20}
+use Rattle.arch_base.specs.declared.ids.ObjectId.{ObjectId}
 use Rattle.disk_model.specs.Sizes.{greatest_epoch}
 use Rattle.arch_model.specs.Archives.{Entry, Archive, live, messages, text_of, in_epoch, has_entry, IsFree}
 use Rattle.arch_model.specs.Validity.{number_after, Rise, AtEachPlace, EndsLive, LiveDiffer, BlobsAgree}
@@ -21,6 +21,7 @@ use Rattle.mem_archive.specs.declared.kept.Kept.{Kept}
 use Rattle.mem_archive.specs.declared.kept.KeptPlace.{KeptPlace}
 use Rattle.mem_archive.specs.declared.kept.End.{End}
 use Rattle.arch_base.specs.declared.sequence.NoMemory.{NoMemory}
+use Rattle.arch_base.specs.declared.ids.Form.TheVariants as form
 use Rattle.arch_judge.specs.Indexes.{IsArchiveIndex}
 use Rattle.arch_judge.specs.declared.index.Index.{Index}
 use Rattle.arch_judge.specs.declared.judging.Verdict.{Verdict}
@@ -48,7 +49,7 @@ line_of k = record {
   number = k.number;
   epoch = k.epoch;
   secs = k.moment;
-  blob = blob_id_of k.text;
+  blob = blob_id_of form.Sha1 k.text;
   size = length k.text;
   commit = k.commit;
 }
@@ -155,7 +156,7 @@ HasId e = IsSome (own_id e.text)
 -- What may be kept: no live message has the text's own id, no other text has its blob id, and a
 -- number is left. A text is never still to be compared.
 abbrev pub MayKeep : Archive → Verdict → Type 0
-MayKeep a (Take text ids number) = IsFree (live a.entries) text × (ids ≡ text_ids_of text)
+MayKeep a (Take text ids number) = IsFree (live a.entries) text × (ids ≡ text_ids_of form.Sha1 text)
     × (collision a.entries text ≡ None) × (a.next ≤ a.config.max) × (number ≡ a.next)
 MayKeep a (Refuse reply) = Unit {0}
 
@@ -187,8 +188,8 @@ pub record IsKept (config : Config) (kept : List Kept) (places : List (Option Ke
   pub ends : IsEpochEnd config.limit (entries_of kept) end_
 
 -- The bytes before those of an entry: an epoch's first bytes, if the entry has no parent.
-abbrev pub front_bytes : Option Id20 → List ℕ
-front_bytes None = magic
+abbrev pub front_bytes : Option ObjectId → List ℕ
+front_bytes None = magic form.Sha1
 front_bytes (Some id) = []
 
 -- The end to which a new entry is appended, if the last epoch has `room` bytes left.
@@ -209,8 +210,8 @@ end_in_epoch epoch limit end_ = if end_.epoch == epoch then end_
 abbrev pub end_after : End → EntryKind → List ℕ → ℕ → End
 end_after end_ kind text moment = record {
   epoch = end_.epoch;
-  room = end_.room - length (front_bytes end_.parent ++ entry_bytes kind text moment end_.parent);
-  parent = Some (commit_id kind text moment end_.parent);
+  room = end_.room - length (front_bytes end_.parent ++ entry_bytes form.Sha1 kind text moment end_.parent);
+  parent = Some (commit_id form.Sha1 kind text moment end_.parent);
 }
 
 -- The new bytes start with the old ones.
@@ -255,8 +256,8 @@ abbrev pub numbered_to : Archive → ℕ → Archive
 numbered_to a next = record { config = a.config; entries = a.entries; next = greater a.next next }
 
 -- The end and the commit after an entry that is appended so.
-pub record IsEndAfter (a : Archive) (e : Entry) (commit : Id20) (end_ : End) : Type 0 where
+pub record IsEndAfter (a : Archive) (e : Entry) (commit : ObjectId) (end_ : End) : Type 0 where
   pub ends : IsEpochEnd a.config.limit (a.entries ++ e ∷ []) end_
   pub epoch : end_.epoch ≡ e.epoch
   pub commit_is : commit
-      ≡ commit_id e.kind e.text e.moment (last_commit None (in_epoch a.entries e.epoch))
+      ≡ commit_id form.Sha1 e.kind e.text e.moment (last_commit None (in_epoch a.entries e.epoch))

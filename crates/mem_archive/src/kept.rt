@@ -1,6 +1,7 @@
 //! What the archive in memory keeps of each entry, and of its last epoch.
 //! Allocates.
 ghost use Rattle.std.specs.Prelude.{◌≡◌, ◌++◌, ◌≤◌, IfOk, OnOk, OnErr, is_ok, if◌then◌else◌};
+ghost use Rattle.arch_base.specs.declared.ids.Form.TheVariants as form;
 ghost use Rattle.disk_model.specs.Sizes.{greatest_epoch};
 ghost use Rattle.git_objects.specs.Objects.{blob_id_of};
 ghost use Rattle.mail_commits.specs.Entries.{commit_id, entry_bytes};
@@ -99,7 +100,7 @@ impl End {
         moment: u64,
     ) -> Result<End, NoMemory>
         requires epoch { self.epoch ≤ greatest_epoch }
-        requires blob { blob.now ≡ blob_id_of text.now }
+        requires blob { blob.now ≡ blob_id_of form.Sha1 text.now }
         ensures { IfOk result (λ made.
             made ≡ end_after (end_for_new limit self) kind text.now moment) }
     {
@@ -152,7 +153,7 @@ impl End {
         blob: &ObjectId,
         moment: u64,
     ) -> Result<End, NoMemory>
-        requires { blob.now ≡ blob_id_of text.now }
+        requires { blob.now ≡ blob_id_of form.Sha1 text.now }
         ensures { IfOk result (λ made. made ≡ end_after self kind text.now moment) }
     {
         let mut bytes = Bytes::new(alloc);
@@ -178,10 +179,10 @@ pub(crate) fn push_after(
     parent: Option<ObjectId>,
     into: &mut Bytes,
 ) -> Result<ObjectId, NoMemory>
-    requires { blob.now ≡ blob_id_of text.now }
-    ensures id { IfOk result (λ id. id ≡ commit_id kind text.now moment parent) }
+    requires { blob.now ≡ blob_id_of form.Sha1 text.now }
+    ensures id { IfOk result (λ id. id ≡ commit_id form.Sha1 kind text.now moment parent) }
     ensures ok { OnOk result (into.new
-        ≡ into.old ++ (front_bytes parent ++ entry_bytes kind text.now moment parent)) }
+        ≡ into.old ++ (front_bytes parent ++ entry_bytes form.Sha1 kind text.now moment parent)) }
     ensures err { OnErr result (BytesGrow into.old into.new) }
 {
     push_front(parent, into)?;

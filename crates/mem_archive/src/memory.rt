@@ -3,6 +3,7 @@
 ghost use Rattle.std.specs.Prelude.{◌≡◌, ◌+◌, ◌++◌, ◌≤◌, false, not, take, drop, length, option_copied, IfOk, OnOk, OnErr, IsSome, Some, None};
 ghost use Rattle.std.specs.Str.{bytes_eq};
 ghost use Rattle.arch_base.specs.Configs.{IsConfig};
+ghost use Rattle.arch_base.specs.declared.ids.Form.TheVariants as form;
 ghost use Rattle.mail_reader.specs.Stored.{stored as stored_of};
 ghost use Rattle.mail_reader.specs.Ids.{own_id as own_id_of};
 ghost use Rattle.git_objects.specs.Objects.{blob_id_of};
@@ -301,7 +302,7 @@ impl MemArchive {
     /// Keeps a message under the next number, and answers with that number.
     fn take(&mut self, text: Bytes, ids: TextIds, number: u32, moment: u64) -> Answer
         requires free { IsFree (live self.old.entries) text }
-        requires ids { ids ≡ text_ids_of text }
+        requires ids { ids ≡ text_ids_of form.Sha1 text }
         requires alone { collision self.old.entries text ≡ None }
         requires room { self.old.next ≤ self.old.config.max }
         ensures done { Delivers self.old result self.new (record {
@@ -376,7 +377,7 @@ impl MemArchive {
         moment: u64,
     ) -> Result<(), NoMemory>
         requires live { text_of (live self.old.entries) number ≡ Some text }
-        requires blob { blob.now ≡ blob_id_of text }
+        requires blob { blob.now ≡ blob_id_of form.Sha1 text }
         ensures ok { OnOk result (self.new
             ≡ with_deletion self.old number (new_epoch self.old) text moment) }
         ensures err { OnErr result (self.new ≡ self.old) }
@@ -506,7 +507,7 @@ impl MemArchive {
     ///
     /// `NoMemory` leaves the archive unchanged.
     fn append_message(&mut self, entry: Kept, ids: &TextIds, end: End) -> Result<(), NoMemory>
-        requires ids { ids.now ≡ text_ids_of entry.text }
+        requires ids { ids.now ≡ text_ids_of form.Sha1 entry.text }
         requires follows { EntryMayFollow self.old (entry_of entry) }
         requires number { entry.number ≡ self.old.next }
         requires ends { IsEndAfter self.old (entry_of entry) entry.commit end }
@@ -598,7 +599,7 @@ impl MemArchive {
     ///
     /// `NoMemory` leaves the archive unchanged.
     fn keep(&mut self, text: Bytes, ids: &TextIds, moment: u64) -> Result<(), NoMemory>
-        requires ids { ids.now ≡ text_ids_of text }
+        requires ids { ids.now ≡ text_ids_of form.Sha1 text }
         requires free { IsFree (live self.old.entries) text }
         requires alone { collision self.old.entries text ≡ None }
         requires room { self.old.next ≤ self.old.config.max }

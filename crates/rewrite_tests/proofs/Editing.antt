@@ -7,7 +7,7 @@ use Rattle.std.proofs.lemmas.Bool.{false_from_ne_true}
 use Rattle.std.proofs.lemmas.Slice.Eq.{bytes_eq-Decides}
 use Rattle.mail_reader.specs.Ids.{own_id}
 use Rattle.arch_model.specs.Archives.{Entry, Archive, is_message, is_ended, is_id, live, owner, IsFree, without_text}
-use Rattle.arch_base.specs.declared.ids.Id20.{Id20}
+use Rattle.arch_base.specs.declared.ids.ObjectId.{ObjectId}
 use Rattle.store_finding.specs.declared.entries.StoredEntry.{StoredEntry}
 use Rattle.mail_reader.specs.StorageTexts.{IsStorageText}
 use Rattle.store_finding.specs.Kept.{StoreState, KeepsArchive, stored_after}
@@ -61,7 +61,7 @@ free_without v text some apart a keeps old =
     (ids.0, ids.1, none_owns (without_text a.entries old) ids.0 (some_stay (λ (e : Entry). is_id ids.0 (own_id e.text) ≡ false) a.entries old ids.2))
 
 -- The edit may be done.
-pub editable : (v : StoreState) (number : ℕ) (blob : Id20) (text : List ℕ) → MayPurge v number blob → v.root.next ≤ v.root.config.max → IsStorageText text → Apart text v.entries → MayEdit v number blob text
+pub editable : (v : StoreState) (number : ℕ) (blob : ObjectId) (text : List ℕ) → MayPurge v number blob → v.root.next ≤ v.root.config.max → IsStorageText text → Apart text v.entries → MayEdit v number blob text
 editable v number blob text purge left storage apart = record { purge = purge; number_left = left; storage = storage; id = λ a n old keeps shown is. free_without v text storage.id apart a keeps old }
 
 pub of_two : (text : List ℕ) (es : List StoredEntry) (e f : StoredEntry) → length es < 3 → e ≡ get_or es 0 e → f ≡ get_or es 1 f → own_id text ≢ Some e.seen.id → own_id text ≢ Some f.seen.id → Apart text es

@@ -1,7 +1,7 @@
 //! A map of two messages that is written without the first one.
 ghost use Rattle.std.specs.Prelude.{◌≡◌, [], ◌∷◌, IfOk};
 
-use arch_base::{Id20, MessageNumbers, NoMemory};
+use arch_base::{ObjectId, MessageNumbers, NoMemory};
 use disk_model::{Disk, DiskFault, FileKind, FileName, RECORD_SIZE, WalkRefusal};
 use fixtures::empty_disk;
 use number_map::{Record, append, plan_without, push_record, rewrite};
@@ -28,12 +28,12 @@ const LINES: [Record; 2] = [
     Record {
         number: 1,
         epoch: 0,
-        blob: Id20(*b"abcdefghijklmnopqrst"),
+        blob: ObjectId(*b"abcdefghijklmnopqrst"),
     },
     Record {
         number: 2,
         epoch: 0,
-        blob: Id20(*b"ABCDEFGHIJKLMNOPQRST"),
+        blob: ObjectId(*b"ABCDEFGHIJKLMNOPQRST"),
     },
 ];
 
@@ -41,7 +41,7 @@ const LINES: [Record; 2] = [
 const GONE: Record = Record {
     number: 1,
     epoch: 4_294_967_295,
-    blob: Id20([0; 20]),
+    blob: ObjectId([0; 20]),
 };
 
 /// The bytes of that record and of the second message's.

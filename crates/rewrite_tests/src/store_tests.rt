@@ -8,7 +8,7 @@ ghost use Rattle.epoch_store.specs.Commands.{StoreHasSizes, MayEdit, MayPurge};
 use crate::entries_tests::{ALONE_COMMIT, put_two};
 use crate::map_tests::BYTES;
 use crate::plan_tests::ROOT;
-use arch_base::{Id20, ObjectId, id_of_hex};
+use arch_base::{ObjectId, ObjectId, id_of_hex};
 use disk_model::{Disk, DiskFault, FileKind, FileName, MemDisk};
 use epoch_file::StoreRefusal;
 use epoch_store::Store;
@@ -65,7 +65,7 @@ fn put_root(disk: &mut MemDisk) -> Result<(), DiskFault> {
 }
 
 /// Appends the record of a message in the first epoch to the map.
-fn add_record(disk: &mut MemDisk, number: u32, blob: Id20) -> Result<(), DiskFault> {
+fn add_record(disk: &mut MemDisk, number: u32, blob: ObjectId) -> Result<(), DiskFault> {
     let at = disk.length(MAP)?;
     if at > 1000 {
         return Err(DiskFault);

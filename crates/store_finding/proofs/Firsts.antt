@@ -4,6 +4,7 @@ use Rattle.std.specs.List.{AllByRecursion}
 use Rattle.std.proofs.Common.{◌∙◌, sym, ap, subst, arith, append_assoc}
 use Rattle.std.proofs.lemmas.List.{append-nil, map-append}
 use Rattle.std.proofs.lemmas.Bool.Decides.{nat_tests}
+use Rattle.arch_base.specs.declared.ids.Form.TheVariants as form
 use Rattle.git_objects.specs.declared.entry_kind.EntryKind.{EntryKind}
 use Rattle.git_objects.specs.declared.entry_kind.EntryKind.TheVariants.{Message, Deletion}
 use Rattle.mail_reader.specs.Ids.{own_id}
@@ -51,7 +52,7 @@ blobs_front (x ∷ xs) ys agree = (all_front _ xs ys agree.0, blobs_front xs ys 
 -- The last of entries whose texts agree has the text of each with its blob id.
 pub blobs_last : (es : List Entry) (e : Entry) → BlobsAgree (es ++ e ∷ []) → Agrees e.text es
 blobs_last [] e agree = tt
-blobs_last (f ∷ es) e agree = (all_last (λ (g : Entry). blob_id_of g.text ≡ blob_id_of f.text → g.text ≡ f.text) es e agree.0, blobs_last es e agree.1)
+blobs_last (f ∷ es) e agree = (all_last (λ (g : Entry). blob_id_of form.Sha1 g.text ≡ blob_id_of form.Sha1 f.text → g.text ≡ f.text) es e agree.0, blobs_last es e agree.1)
 
 -- The last of entries whose own ids differ has one of its own.
 pub ids_apart : (es : List Entry) (new : Entry) → IdsDiffer (es ++ new ∷ []) → Apart new.text es
@@ -124,7 +125,7 @@ below_step true n line rest (e ∷ es) r more number later is =
     let there_is : line.number ≡ e.number = ap (λ (x : Record). x.number) same in
     ((omega (arith, number, there_is, all.1), all.0), omega (arith, all.1))
 
-pub numbers_rise : (n : ℕ) (rs : List Record) (es : List Entry) (r : Record) (more : List Record) → AreRecordsFrom n rs → messages rs ≡ map record_of es ++ r ∷ more → Below n es r
+pub numbers_rise : (n : ℕ) (rs : List Record) (es : List Entry) (r : Record) (more : List Record) → AreRecordsFrom form.Sha1 n rs → messages rs ≡ map record_of es ++ r ∷ more → Below n es r
 numbers_rise n [] [] r more valid is = absurd (let wrong : [] ≡ r ∷ more = is in cc)
 numbers_rise n [] (e ∷ es) r more valid is = absurd (let wrong : [] ≡ record_of e ∷ (map record_of es ++ r ∷ more) = is in cc)
 numbers_rise n (line ∷ lines) es r more valid is = below_step (has_message line) n line (messages lines) es r more valid.0.number (λ fs. numbers_rise (n + 1) lines fs r more valid.1) is
@@ -167,7 +168,7 @@ pub records_last : (es : List Entry) (new : Entry) (after : List Record) → map
 records_last es new after = records_by new.kind es new after refl
 
 -- Its number comes after those before it, if it is a message.
-number_by : (k : EntryKind) (rs after : List Record) (es : List Entry) (new : Entry) → AreRecordsFrom 1 rs → AreFirst rs (with_record k new after) es → NumberIsFrom k 1 new.number × AllByRecursion (λ (e : Entry). NumberIsFrom k (e.number + 1) new.number) es
+number_by : (k : EntryKind) (rs after : List Record) (es : List Entry) (new : Entry) → AreRecordsFrom form.Sha1 1 rs → AreFirst rs (with_record k new after) es → NumberIsFrom k 1 new.number × AllByRecursion (λ (e : Entry). NumberIsFrom k (e.number + 1) new.number) es
 number_by Message rs after es new numbered first =
     let below = numbers_rise 1 rs (delivered es) (record_of new) after numbered first.records in
     (below.1, all_weaker (λ (e : Entry). e.number < new.number) (λ (e : Entry). e.number + 1 ≤ new.number) es (λ e less. omega (arith, less)) (numbers_all (λ (n : ℕ). n < new.number) [] es tt first.ends below.0))
@@ -187,7 +188,7 @@ ends_by Deletion es new fits = fits
 
 -- An entry of the next record, if it is a message, joins those of the first ones if it fits by its
 -- kind and has the text of each entry with its blob id.
-pub first_more : (rs after : List Record) (es : List Entry) (new : Entry) → AreRecordsFrom 1 rs → AreFirst rs (with_record new.kind new after) es → IsEntry new
+pub first_more : (rs after : List Record) (es : List Entry) (new : Entry) → AreRecordsFrom form.Sha1 1 rs → AreFirst rs (with_record new.kind new after) es → IsEntry new
     → AllByRecursion (λ (e : Entry). e.epoch ≤ new.epoch) es → FitsKind new.kind es new → Agrees new.text es → AreFirst rs after (es ++ new ∷ [])
 first_more rs after es new numbered first entry older fits agree =
     let numbers = number_by new.kind rs after es new numbered first in

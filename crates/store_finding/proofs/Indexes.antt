@@ -7,6 +7,7 @@ use Rattle.std.specs.BTreeMap.{is_at}
 use Rattle.std.specs.Ordering.{nat_cmp}
 use Rattle.std.specs.Cmp.Lexicographic.{slice_cmp}
 use Rattle.std.proofs.Common.{◌∙◌, sym, ap, subst, arith, length-append, Some}
+use Rattle.arch_base.specs.declared.ids.Form.TheVariants as form
 use Rattle.git_objects.specs.Objects.{blob_id_of}
 use Rattle.git_objects.specs.declared.entry_kind.EntryKind.{EntryKind}
 use Rattle.git_objects.specs.declared.entry_kind.EntryKind.TheVariants.{Message, Deletion}
@@ -46,11 +47,11 @@ module _ (es : List Entry) (e : Entry) (old new : Index) (ordered : EntriesAreIn
   own : own_id e.text ≡ Some (own_of e.text)
   own = there (own_id e.text) [] (all_last IsEntry es e ordered.each).text.id
 
-  taken_message : e.kind ≡ Message → IndexPuts old new (own_of e.text) (blob_id_of e.text) (owner_of e) → IsArchiveIndex (es ++ e ∷ []) new
+  taken_message : e.kind ≡ Message → IndexPuts old new (own_of e.text) (blob_id_of form.Sha1 e.text) (owner_of e) → IsArchiveIndex (es ++ e ∷ []) new
   taken_message one puts =
       let grows = live_more es e one in
       let apart = last_apart (live es) e (subst IdsDiffer grows (place_last LiveDiffer [] es e ordered.ids)) in
-      IsArchiveIndex-push es e old new (own_of e.text) (blob_id_of e.text) (owner_of e) grows is_index puts refl own (owner-none (live es) (own_id e.text) (own_of e.text) apart own) refl
+      IsArchiveIndex-push es e old new (own_of e.text) (blob_id_of form.Sha1 e.text) (owner_of e) grows is_index puts refl own (owner-none (live es) (own_id e.text) (own_of e.text) apart own) refl
 
   taken_deletion : e.kind ≡ Deletion → IndexLoses old new (own_of e.text) → IsArchiveIndex (es ++ e ∷ []) new
   taken_deletion gone lost =

@@ -8,7 +8,8 @@ use Rattle.std.proofs.lemmas.Slice.Eq.{bytes_eq-Decides}
 use Rattle.std.proofs.lemmas.List.Elements.{filter-append}
 use Rattle.std.proofs.lemmas.Bool.{cases_lt}
 use Rattle.std.proofs.lemmas.Bool.Decides.{nat_tests}
-use Rattle.arch_base.specs.declared.ids.Id20.{Id20}
+use Rattle.arch_base.specs.declared.ids.ObjectId.{ObjectId}
+use Rattle.arch_base.specs.declared.ids.Form.TheVariants as form
 use Rattle.git_objects.specs.Objects.{blob_id_of}
 use Rattle.git_objects.specs.declared.entry_kind.EntryKind.{EntryKind}
 use Rattle.git_objects.specs.declared.entry_kind.EntryKind.TheVariants.{Message, Deletion}
@@ -81,11 +82,11 @@ pub none_at : (v : JoinedEntries) (xs : List Record) (i : ℕ) → xs ≡ v.reco
 none_at v xs i records entries less = (λ j. slice_get (sym records j) (sym entries j)) ∙ got_none xs i less
 
 -- Two ids differ if their bytes do.
-pub blobs_differ : (a b : Id20) (t : Bool) → t ≡ not (bytes_eq a.0 b.0) → t ≡ true → a ≢ b
-blobs_differ a b t is yes_it same = let equal : bytes_eq a.0 b.0 ≡ true = (bytes_eq-Decides a.0 b.0).1 (ap (λ (i : Id20). i.0) same) in let wrong : false ≡ true = ap not (sym equal) ∙ (sym is ∙ yes_it) in cc
+pub blobs_differ : (a b : ObjectId) (t : Bool) → t ≡ not (bytes_eq a.0 b.0) → t ≡ true → a ≢ b
+blobs_differ a b t is yes_it same = let equal : bytes_eq a.0 b.0 ≡ true = (bytes_eq-Decides a.0 b.0).1 (ap (λ (i : ObjectId). i.0) same) in let wrong : false ≡ true = ap not (sym equal) ∙ (sym is ∙ yes_it) in cc
 
-pub blobs_same : (a b : Id20) (t : Bool) → t ≡ not (bytes_eq a.0 b.0) → t ≡ false → a ≡ b
-blobs_same a b t is no_way = ap (λ (l : List ℕ). let i : Id20 = record { 0 = l } in i) ((bytes_eq-Decides a.0 b.0).0 (not_false (bytes_eq a.0 b.0) (sym is ∙ no_way))) where
+pub blobs_same : (a b : ObjectId) (t : Bool) → t ≡ not (bytes_eq a.0 b.0) → t ≡ false → a ≡ b
+blobs_same a b t is no_way = ap (λ (l : List ℕ). let i : ObjectId = record { 0 = l } in i) ((bytes_eq-Decides a.0 b.0).0 (not_false (bytes_eq a.0 b.0) (sym is ∙ no_way))) where
   not_false : (d : Bool) → not d ≡ false → d ≡ true
   not_false true e = refl
   not_false false e = absurd (let wrong : true ≡ false = e in cc)
@@ -133,11 +134,11 @@ all_joined P [] ys one two = two
 all_joined P (x ∷ xs) ys one two = (one.0, all_joined P xs ys one.1 two)
 
 -- The bytes of entries with one appended.
-pub size_more : (parent : Option Id20) (es : List Entry) (e : Entry) → length (entries_bytes parent (es ++ e ∷ [])) ≡ length (entries_bytes parent es) + length (bytes_after (last_commit parent es) (in_file e))
-size_more parent [] e = omega (arith, length-append (entry_bytes e.kind e.text e.moment parent) [])
+pub size_more : (parent : Option ObjectId) (es : List Entry) (e : Entry) → length (entries_bytes parent (es ++ e ∷ [])) ≡ length (entries_bytes parent es) + length (bytes_after (last_commit parent es) (in_file e))
+size_more parent [] e = omega (arith, length-append (entry_bytes form.Sha1 e.kind e.text e.moment parent) [])
 size_more parent (f ∷ es) e =
-    let next : Option Id20 = Some (commit_id f.kind f.text f.moment parent) in
-    let front = entry_bytes f.kind f.text f.moment parent in
+    let next : Option ObjectId = Some (commit_id form.Sha1 f.kind f.text f.moment parent) in
+    let front = entry_bytes form.Sha1 f.kind f.text f.moment parent in
     omega (arith, size_more next es e, length-append front (entries_bytes next (es ++ e ∷ [])), length-append front (entries_bytes next es))
 
 -- What is recorded of one more entry of an epoch.
@@ -204,7 +205,7 @@ kept_one before (e ∷ es) (suc i) s found =
     }
 
 -- A kept message of a live number has the blob id of its text.
-message_is : (v : JoinedEntries) (rs after : List Record) (all : List Entry) (n : ℕ) (s : StoredEntry) (text : List ℕ) → HoldsJoined v rs after all → IsMessageOf v.entries n s → text_of (live all) n ≡ Some text → s.seen.blob ≡ blob_id_of text
+message_is : (v : JoinedEntries) (rs after : List Record) (all : List Entry) (n : ℕ) (s : StoredEntry) (text : List ℕ) → HoldsJoined v rs after all → IsMessageOf v.entries n s → text_of (live all) n ≡ Some text → s.seen.blob ≡ blob_id_of form.Sha1 text
 message_is v rs after all n s text holds of shown =
     let f = kept_one [] all of.index s (ap (λ (l : List StoredEntry). slice_get l of.index) (sym holds.entries_are) ∙ of.among) in
     let e = f.entry in
@@ -215,7 +216,7 @@ message_is v rs after all n s text holds of shown =
     let its : text_of (delivered all) e.number ≡ Some e.text = ap (λ (l : List Entry). text_of l e.number) split ∙ (lone_text (delivered f.front) 1 e (delivered f.behind) (subst (Ascends 1) split (messages_ascend 1 0 all holds.first.order))).1 in
     let one = live-one 1 0 all n text holds.first.order shown in
     let same : e.text ≡ text = ap (λ (o : Option (List ℕ)). unwrap_or o text) (sym its ∙ (ap (text_of (delivered all)) number ∙ one.is)) in
-    ap (λ (t : StoredEntry). t.seen.blob) f.kept ∙ ap blob_id_of same
+    ap (λ (t : StoredEntry). t.seen.blob) f.kept ∙ ap (blob_id_of form.Sha1) same
 
 -- The live entry with an own id that the index has.
 record Owns (all : List Entry) (id : List ℕ) (o : Owner) : Type 0 where
@@ -244,7 +245,7 @@ pub ends_none : (v : JoinedEntries) (index : Index) (seen : Seen) → IndexesSto
 ends_none v index seen indexed none rs after all holds number joins = (let wrong : None ≡ Some joins.ended = sym (is_free v index seen indexed none rs after all holds) ∙ joins.live in cc)
 
 module _ (v : JoinedEntries) (index : Index) (seen : Seen) (o : Owner) (s : StoredEntry) (indexed : IndexesStored v.entries index) (found : owner_in index.owners seen.id ≡ Some o) (message : IsMessageOf v.entries o.number s) where
-  its_blob : (rs after : List Record) (all : List Entry) → HoldsJoined v rs after all → (it : Owns all seen.id o) → s.seen.blob ≡ blob_id_of it.entry.text
+  its_blob : (rs after : List Record) (all : List Entry) → HoldsJoined v rs after all → (it : Owns all seen.id o) → s.seen.blob ≡ blob_id_of form.Sha1 it.entry.text
   its_blob rs after all holds it = message_is v rs after all o.number s it.entry.text holds message
       (subst (λ (n : ℕ). text_of (live all) n ≡ Some it.entry.text) it.number_is (owner_text (live all) 1 seen.id it.entry (live_ascends 1 0 all holds.first.order) it.is))
 
@@ -257,15 +258,15 @@ module _ (v : JoinedEntries) (index : Index) (seen : Seen) (o : Owner) (s : Stor
   ends_other apart rs after all holds number joins =
       let it = owns all index seen.id o (index_held v index rs after all indexed holds) found in
       let same : it.entry ≡ joins.ended = found_is (owner (live all) seen.id) it.entry joins.ended it.is joins.live in
-      apart (its_blob rs after all holds it ∙ (ap (λ (e : Entry). blob_id_of e.text) same ∙ joins.blob))
+      apart (its_blob rs after all holds it ∙ (ap (λ (e : Entry). blob_id_of form.Sha1 e.text) same ∙ joins.blob))
 
 -- If no entry has its blob id, a text agrees with all.
-no_blob : (es : List Entry) (text : List ℕ) → blob_number es (blob_id_of text).0 ≡ None → Agrees text es
+no_blob : (es : List Entry) (text : List ℕ) → blob_number es (blob_id_of form.Sha1 text).0 ≡ None → Agrees text es
 no_blob [] text none = tt
-no_blob (e ∷ es) text none = by (bytes_eq (blob_id_of text).0 (blob_id_of e.text).0) refl none (no_blob es text) where
-  by : (t : Bool) → bytes_eq (blob_id_of text).0 (blob_id_of e.text).0 ≡ t → (if t then Some e.number else blob_number es (blob_id_of text).0) ≡ None → (blob_number es (blob_id_of text).0 ≡ None → Agrees text es) → Agrees text (e ∷ es)
+no_blob (e ∷ es) text none = by (bytes_eq (blob_id_of form.Sha1 text).0 (blob_id_of form.Sha1 e.text).0) refl none (no_blob es text) where
+  by : (t : Bool) → bytes_eq (blob_id_of form.Sha1 text).0 (blob_id_of form.Sha1 e.text).0 ≡ t → (if t then Some e.number else blob_number es (blob_id_of form.Sha1 text).0) ≡ None → (blob_number es (blob_id_of form.Sha1 text).0 ≡ None → Agrees text es) → Agrees text (e ∷ es)
   by true test is more = absurd (let wrong : Some e.number ≡ None = is in cc)
-  by false test is more = (λ same. absurd (let yes_it = bytes_yes (blob_id_of text).0 (blob_id_of e.text).0 (ap (λ (i : Id20). i.0) same) in let wrong : true ≡ false = sym yes_it ∙ test in cc), more is)
+  by false test is more = (λ same. absurd (let yes_it = bytes_yes (blob_id_of form.Sha1 text).0 (blob_id_of form.Sha1 e.text).0 (ap (λ (i : ObjectId). i.0) same) in let wrong : true ≡ false = sym yes_it ∙ test in cc), more is)
 
 text_among : (front : List Entry) (e : Entry) (behind : List Entry) (text : List ℕ) → e.text ≡ text → HasText text (front ++ e ∷ behind)
 text_among [] e behind text is = inl is
@@ -294,10 +295,10 @@ compared root files cur rs after epoch all x s rest same holds seen (inr one) ol
     let new_text = text_there root files epoch all new rest stand (omega arith) in
     let is : same ≡ bytes_eq e.text x.text =
     one.is e.text x.text (subst (λ (t : StoredEntry). TextIn (bytes_of (files (epoch_file_of root t.epoch))) t.seen e.text) (sym f.kept) old_text) (subst (λ (t : Seen). TextIn (bytes_of (files (epoch_file_of root epoch))) t x.text) (sym seen) new_text) in
-    let blob : blob_id_of x.text ≡ blob_id_of e.text = ap (λ (t : Seen). t.blob) (sym seen) ∙ (sym one.blob ∙ ap (λ (t : StoredEntry). t.seen.blob) f.kept) in
+    let blob : blob_id_of form.Sha1 x.text ≡ blob_id_of form.Sha1 e.text = ap (λ (t : Seen). t.blob) (sym seen) ∙ (sym one.blob ∙ ap (λ (t : StoredEntry). t.seen.blob) f.kept) in
     record {
       agrees = λ yes_it. agrees-has all x.text holds.first.blobs (subst (HasText x.text) (sym f.is) (text_among f.front e f.behind x.text (bytes_same e.text x.text (sym is ∙ yes_it))));
-      yes_it = λ agrees. is ∙ bytes_yes e.text x.text (sym (one_of_all (λ (g : Entry). blob_id_of x.text ≡ blob_id_of g.text → x.text ≡ g.text) f.front e f.behind (subst (Agrees x.text) f.is agrees) blob));
+      yes_it = λ agrees. is ∙ bytes_yes e.text x.text (sym (one_of_all (λ (g : Entry). blob_id_of form.Sha1 x.text ≡ blob_id_of form.Sha1 g.text → x.text ≡ g.text) f.front e f.behind (subst (Agrees x.text) f.is agrees) blob));
     }
 
 -- What is known of an entry that joins: what records are left, and that it fits.
@@ -310,12 +311,12 @@ message_goes : (cur : JoinedEntries) (rs after : List Record) (all : List Entry)
 message_goes cur rs after all epoch number x s holds valid seen joins =
     let e : Entry = as_entry number epoch x in
     let kind : Message ≡ x.kind = sym joins.wanted.message ∙ ap (λ (t : Seen). t.kind) seen in
-    let blob_is : s.blob ≡ blob_id_of x.text = ap (λ (t : Seen). t.blob) seen in
+    let blob_is : s.blob ≡ blob_id_of form.Sha1 x.text = ap (λ (t : Seen). t.blob) seen in
     let count : message_count cur.entries ≡ length (delivered all) = ap message_count holds.entries_are ∙ kept_count [] all in
     let found : slice_get (map record_of (delivered all) ++ after) (length (delivered all)) ≡ Some (record { number = number; epoch = epoch; blob = s.blob }) =
     sym (ap (λ (l : List Record). slice_get l (length (delivered all))) (holds.records ∙ holds.first.records)) ∙ (sym (ap (slice_get cur.records) count) ∙ joins.wanted.next) in
     let first = first_is after (record { number = number; epoch = epoch; blob = s.blob }) (sym (record_after (delivered all) after) ∙ found) in
-    let left : after ≡ record_of e ∷ first.rest = first.is ∙ ap (λ (b : Id20). let r : Record = record { number = number; epoch = epoch; blob = b } in r ∷ first.rest) blob_is in
+    let left : after ≡ record_of e ∷ first.rest = first.is ∙ ap (λ (b : ObjectId). let r : Record = record { number = number; epoch = epoch; blob = b } in r ∷ first.rest) blob_is in
     let free : owner (live all) (own_of x.text) ≡ None = ap (λ (t : Seen). owner (live all) t.id) (sym seen) ∙ joins.id in
     record {
       left = first.rest;
@@ -327,8 +328,8 @@ deletion_goes : (rs after : List Record) (all : List Entry) (epoch number : ℕ)
 deletion_goes rs after all epoch number x s first seen agree joins =
     let e : Entry = as_entry number epoch x in
     let kind : Deletion ≡ x.kind = sym joins.deletion ∙ ap (λ (t : Seen). t.kind) seen in
-    let blob : blob_id_of x.text ≡ blob_id_of joins.ended.text = ap (λ (t : Seen). t.blob) (sym seen) ∙ sym joins.blob in
-    let same : x.text ≡ joins.ended.text = owner_all (λ (f : Entry). blob_id_of x.text ≡ blob_id_of f.text → x.text ≡ f.text) (live all) s.id joins.ended (live-all (λ (f : Entry). blob_id_of x.text ≡ blob_id_of f.text → x.text ≡ f.text) all agree) joins.live blob in
+    let blob : blob_id_of form.Sha1 x.text ≡ blob_id_of form.Sha1 joins.ended.text = ap (λ (t : Seen). t.blob) (sym seen) ∙ sym joins.blob in
+    let same : x.text ≡ joins.ended.text = owner_all (λ (f : Entry). blob_id_of form.Sha1 x.text ≡ blob_id_of form.Sha1 f.text → x.text ≡ f.text) (live all) s.id joins.ended (live-all (λ (f : Entry). blob_id_of form.Sha1 x.text ≡ blob_id_of form.Sha1 f.text → x.text ≡ f.text) all agree) joins.live blob in
     let shown = owner_text (live all) 1 s.id joins.ended (live_ascends 1 0 all first.order) joins.live in
     record {
       left = after;
@@ -373,7 +374,7 @@ joined_goes cur rs after all epoch number x s holds valid seen agree (inr joins)
 next_by : (k : EntryKind) (cur : JoinedEntries) (rs after left : List Record) (all : List Entry) (epoch : ℕ) (next : Entry) (s : Seen) → next.kind ≡ k → HoldsJoined cur rs after all → next.epoch ≡ epoch → s ≡ seen_next (in_epoch all epoch) (in_file next)
     → IsEntry next → AreFirst rs (with_record k next left) all → FitsKind k all next → Agrees next.text all → JoinsMessage cur all epoch s next.number ⊎ JoinsDeletion all s next.number
 next_by Message cur rs after left all epoch next s is holds same seen entry first fits agree =
-    let blob_is : blob_id_of next.text ≡ s.blob = ap (λ (t : Seen). t.blob) (sym seen) in
+    let blob_is : blob_id_of form.Sha1 next.text ≡ s.blob = ap (λ (t : Seen). t.blob) (sym seen) in
     let count : message_count cur.entries ≡ length (delivered all) = ap message_count holds.entries_are ∙ kept_count [] all in
     let records : cur.records ≡ map record_of (delivered all) ++ record_of next ∷ left = holds.records ∙ first.records in
     let joins : JoinsMessage cur all epoch s next.number = record {
@@ -394,7 +395,7 @@ next_by Deletion cur rs after left all epoch next s is holds same seen entry fir
       deletion = ap (λ (t : Seen). t.kind) seen ∙ is;
       ended = one.entry;
       live = ap (λ (t : Seen). owner (live all) t.id) seen ∙ one.owns;
-      blob = ap blob_id_of one.text_is ∙ ap (λ (t : Seen). t.blob) (sym seen);
+      blob = ap (blob_id_of form.Sha1) one.text_is ∙ ap (λ (t : Seen). t.blob) (sym seen);
       number_is = one.number_is;
     })
 
@@ -464,7 +465,7 @@ all_out (e ∷ es) epoch other apart all =
     let test : (e.epoch == other) ≡ false = (let is : e.epoch ≡ epoch = all.0 in grind (arith, nat_tests)) in
     rw test (all_out es epoch other apart all.1)
 
-files_chain : (parent : Option Id20) (es : List Entry) → entries_bytes parent es ≡ chain parent (map in_file es)
+files_chain : (parent : Option ObjectId) (es : List Entry) → entries_bytes parent es ≡ chain parent (map in_file es)
 files_chain parent [] = refl
 files_chain parent (e ∷ es) = ap (λ (b : List ℕ). bytes_after parent (in_file e) ++ b) (files_chain (Some (commit_after parent (in_file e))) es)
 
@@ -472,7 +473,7 @@ files_joined : (xs ys : List Entry) → map in_file (xs ++ ys) ≡ map in_file x
 files_joined [] ys = refl
 files_joined (x ∷ xs) ys = ap (λ (l : List EpochEntry). in_file x ∷ l) (files_joined xs ys)
 
-there_some : (more : List Entry) (e : Entry) (rest : List Entry) → epoch_bytes (more ++ e ∷ rest) ≡ magic ++ entries_bytes None (more ++ e ∷ rest)
+there_some : (more : List Entry) (e : Entry) (rest : List Entry) → epoch_bytes (more ++ e ∷ rest) ≡ magic form.Sha1 ++ entries_bytes None (more ++ e ∷ rest)
 there_some [] e rest = refl
 there_some (f ∷ more) e rest = refl
 
@@ -502,8 +503,8 @@ stand_there root files epoch others more x rest here stand whole fronts are = λ
       ∙ (filter-append (λ (e : Entry). e.epoch == d) others (more ++ tail) ∙ (ap (λ (l : List Entry). in_epoch others d ++ l) (all_out (more ++ tail) epoch d (λ is. absurd (omega (arith, less, is))) both) ∙ append-nil (in_epoch others d)))
 
   bytes : epoch_of here ≡ epoch_bytes (more ++ tail)
-  bytes = ap (λ (l : List EpochEntry). magic ++ chain None l) (are ∙ (ap (λ (l : List EpochEntry). map in_file more ++ l) (sym (as_filed epoch (x ∷ rest))) ∙ sym (files_joined more tail)))
-      ∙ (ap (λ (b : List ℕ). magic ++ b) (sym (files_chain None (more ++ tail))) ∙ sym (there_some more (as_entry 0 epoch x) (as_entries epoch rest)))
+  bytes = ap (λ (l : List EpochEntry). magic form.Sha1 ++ chain None l) (are ∙ (ap (λ (l : List EpochEntry). map in_file more ++ l) (sym (as_filed epoch (x ∷ rest))) ∙ sym (files_joined more tail)))
+      ∙ (ap (λ (b : List ℕ). magic form.Sha1 ++ b) (sym (files_chain None (more ++ tail))) ∙ sym (there_some more (as_entry 0 epoch x) (as_entries epoch rest)))
 
   at_it : Fronts (epoch_bytes (in_epoch all epoch)) (files (epoch_file_of root epoch))
   at_it = subst (λ (l : List Entry). Fronts (epoch_bytes l) (files (epoch_file_of root epoch))) (sym (ap (λ (l : List Entry). in_epoch l epoch) (append_assoc others more tail) ∙ only_here others (more ++ tail) epoch whole.below both))

@@ -3,7 +3,8 @@ use Rattle.std.specs.Prelude.{◌≡◌, ◌+◌, ◌<◌, ◌==◌, ℕ, false,
 use Rattle.std.specs.List.{AllByRecursion}
 use Rattle.std.proofs.Common.{arith}
 use Rattle.std.proofs.lemmas.Bool.Decides.{nat_tests}
-use Rattle.arch_base.specs.declared.ids.Id20.{Id20}
+use Rattle.arch_base.specs.declared.ids.ObjectId.{ObjectId}
+use Rattle.arch_base.specs.declared.ids.Form.TheVariants as form
 use Rattle.arch_model.specs.Archives.{Entry, in_epoch}
 use Rattle.arch_model.specs.Epochs.{last_commit}
 use Rattle.mail_commits.specs.Entries.{commit_id}
@@ -17,6 +18,6 @@ none_in (e ∷ es) epoch below =
     rw test (none_in es epoch below.1)
 
 -- The last commit of entries with one appended.
-pub last_commit_is : (parent : Option Id20) (es : List Entry) (e : Entry) → last_commit parent (es ++ e ∷ []) ≡ Some (commit_id e.kind e.text e.moment (last_commit parent es))
+pub last_commit_is : (parent : Option ObjectId) (es : List Entry) (e : Entry) → last_commit parent (es ++ e ∷ []) ≡ Some (commit_id form.Sha1 e.kind e.text e.moment (last_commit parent es))
 last_commit_is parent [] e = refl
-last_commit_is parent (f ∷ es) e = last_commit_is (Some (commit_id f.kind f.text f.moment parent)) es e
+last_commit_is parent (f ∷ es) e = last_commit_is (Some (commit_id form.Sha1 f.kind f.text f.moment parent)) es e

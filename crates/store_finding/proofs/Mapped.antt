@@ -4,6 +4,7 @@ use Rattle.std.specs.List.{AllByRecursion}
 use Rattle.std.proofs.Common.{◌∙◌, ap, subst, inl, inr, arith}
 use Rattle.std.proofs.lemmas.Grind.{common_steps}
 use Rattle.arch_base.specs.Ids.{IsObjectId}
+use Rattle.arch_base.specs.declared.ids.Form.TheVariants as form
 use Rattle.git_objects.specs.Objects.{blob_spelling}
 use Rattle.git_objects.proofs.ObjectIds.{IsObjectId-id_of}
 use Rattle.arch_model.specs.Archives.{Entry, Archive, messages}
@@ -14,8 +15,8 @@ use Rattle.arch_model.specs.Validity.{IsEntry, IsArchive}
 use Rattle.store_finding.specs.Recovery.{entry_of, record_for, records_from, records_of, map_bytes}
 
 -- Twenty zeros are an id.
-zero_id : IsObjectId (record { 0 = replicate 20 0 })
-zero_id = record { len = refl; bytes = λ k. grind (arith, common_steps) }
+zero_id : IsObjectId form.Sha1 (record { 0 = replicate 20 0 })
+zero_id form.Sha1 = record { len = refl; bytes = λ k. grind (arith, common_steps) }
 
 -- What holds of both alternatives holds of the chosen one.
 chosen : (P : Entry → Type 0) (f e : Entry) (b : Bool) (rest : Option Entry) → P f → (rest ≡ Some e → P e) → (if b then Some f else rest) ≡ Some e → P e
@@ -28,11 +29,11 @@ found_entry P [] n all e is = let wrong : None ≡ Some e = is in cc
 found_entry P (f ∷ es) n all e is = chosen P f e (f.number == n) (entry_of es n) all.0 (λ rest. found_entry P es n all.1 e rest) is
 
 -- Each record is valid.
-record_is_valid : (n : ℕ) (found : Option Entry) → ((e : Entry) → found ≡ Some e → IsEntry e) → IsRecord n (record_for n found)
-record_is_valid n None entry = record { number = refl; blob = zero_id; message = inr (refl, refl) }
+record_is_valid : (n : ℕ) (found : Option Entry) → ((e : Entry) → found ≡ Some e → IsEntry e) → IsRecord form.Sha1 n (record_for n found)
+record_is_valid n None entry = record { number = refl; blob = zero_id form.Sha1; message = inr (refl, refl) }
 record_is_valid n (Some e) entry = record { number = refl; blob = IsObjectId-id_of (blob_spelling e.text); message = inl ((entry e refl).epoch) }
 
-pub records_are_valid : (es : List Entry) (n count : ℕ) → AllByRecursion IsEntry es → AreRecordsFrom n (records_from es n count)
+pub records_are_valid : (es : List Entry) (n count : ℕ) → AllByRecursion IsEntry es → AreRecordsFrom form.Sha1 n (records_from es n count)
 records_are_valid es n zero valid = tt
 records_are_valid es n (suc count) valid = (record_is_valid n (entry_of es n) (found_entry IsEntry es n valid), records_are_valid es (n + 1) count valid)
 
@@ -42,7 +43,7 @@ records_count es n zero = refl
 records_count es n (suc count) = let rest = records_count es (n + 1) count in omega (arith, rest)
 
 -- The records of an archive are valid, and as many as there are numbers below the next one.
-pub records_valid : (a : Archive) → IsArchive a → AreRecordsFrom 1 (records_of a)
+pub records_valid : (a : Archive) → IsArchive a → AreRecordsFrom form.Sha1 1 (records_of a)
 records_valid a valid = records_are_valid (messages a.entries) 1 (a.next - 1) (messages-all IsEntry a.entries valid.entries)
 
 pub records_few : (a : Archive) → length (records_of a) ≡ a.next - 1
@@ -50,4 +51,4 @@ records_few a = records_count (messages a.entries) 1 (a.next - 1)
 
 -- The map has 28 bytes for each number.
 pub map_length : (a : Archive) → IsArchive a → length (map_bytes a) ≡ 28 * (a.next - 1)
-map_length a valid = records_length 1 (records_of a) (records_valid a valid) ∙ ap (λ (n : ℕ). 28 * n) (records_few a)
+map_length a valid = records_length form.Sha1 1 (records_of a) (records_valid a valid) ∙ ap (λ (n : ℕ). 28 * n) (records_few a)

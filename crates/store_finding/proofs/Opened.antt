@@ -4,6 +4,7 @@ use Rattle.std.specs.List.{AllByRecursion, flat_map}
 use Rattle.std.proofs.Common.{◌∙◌, sym, ap, subst, inl, inr, arith, length-take}
 use Rattle.std.proofs.lemmas.List.{append-nil}
 use Rattle.std.proofs.lemmas.Bool.{cases_lt}
+use Rattle.arch_base.specs.declared.ids.Form.TheVariants as form
 use Rattle.git_objects.specs.Objects.{blob_id_of}
 use Rattle.disk_model.specs.Disk.{bytes_of}
 use Rattle.arch_model.specs.Archives.{Entry, Archive, messages as delivered}
@@ -65,7 +66,7 @@ messages_of (e ∷ es) n (suc count) valid rise below = elim (cases_lt n e.numbe
       let is : e.number ≡ n = omega (arith, most, low) in
       let small = valid.0.epoch in
       let r : Record = record_for n (Some e) in
-      let same : r ≡ record_of e = (λ i. record { number = sym is i; epoch = e.epoch; blob = blob_id_of e.text }) in
+      let same : r ≡ record_of e = (λ i. record { number = sym is i; epoch = e.epoch; blob = blob_id_of form.Sha1 e.text }) in
       ap (λ (o : Option Entry). messages (record_for n o ∷ records_from (e ∷ es) (n + 1) count)) (at_first e es n is)
       ∙ (with_message r (records_from (e ∷ es) (n + 1) count) (less_test e.epoch 64 (omega (arith, small)))
       ∙ (ap (λ (rs : List Record). r ∷ messages rs) (records_after e es (n + 1) count (omega (arith, is)))
@@ -82,14 +83,14 @@ delivered_records a valid =
     (messages-all (λ (e : Entry). e.number < 1 + (a.next - 1)) a.entries (all_weaker (λ (e : Entry). e.number < a.next) (λ (e : Entry). e.number < 1 + (a.next - 1)) a.entries (λ e less. omega (arith, less, least)) valid.below))
 
 -- The record of a number without a message.
-none_is : (n : ℕ) (line : Record) → IsRecord n line → has_message line ≡ false → line ≡ record_for n None
+none_is : (n : ℕ) (line : Record) → IsRecord form.Sha1 n line → has_message line ≡ false → line ≡ record_for n None
 none_is n line valid test = elim valid.message [
   | inl low ↦ absurd (let yes_it = less_test line.epoch 64 (omega (arith, low)) in let wrong : true ≡ false = sym yes_it ∙ test in cc)
   | inr none ↦ (λ i. record { number = valid.number i; epoch = none.0 i; blob = record { 0 = none.1 i } })
 ]
 
 -- The records of a map are those of the entries that it has.
-records_back : (n : ℕ) (rs : List Record) (es : List Entry) → AreRecordsFrom n rs → Ascends n es → messages rs ≡ map record_of es → rs ≡ records_from es n (length rs)
+records_back : (n : ℕ) (rs : List Record) (es : List Entry) → AreRecordsFrom form.Sha1 n rs → Ascends n es → messages rs ≡ map record_of es → rs ≡ records_from es n (length rs)
 records_back n [] es valid rise is = refl
 records_back n (line ∷ lines) es valid rise is = by (λ fs. records_back (n + 1) lines fs valid.1) (has_message line) refl es rise is where
   later : (e : Entry) (fs : List Entry) → messages lines ≡ map record_of (e ∷ fs) → n + 1 ≤ e.number
@@ -110,14 +111,14 @@ records_back n (line ∷ lines) es valid rise is = by (λ fs. records_back (n + 
       let same : line ≡ record_of e = cc in
       let tail : messages lines ≡ map record_of fs = cc in
       let number : e.number ≡ n = ap (λ (r : Record). r.number) (sym same) ∙ valid.0.number in
-      let entry : record_of e ≡ record_for n (Some e) = (λ i. record { number = number i; epoch = e.epoch; blob = blob_id_of e.text }) in
+      let entry : record_of e ≡ record_for n (Some e) = (λ i. record { number = number i; epoch = e.epoch; blob = blob_id_of form.Sha1 e.text }) in
       let one : line ≡ record_for n (entry_of (e ∷ fs) n) = same ∙ (entry ∙ ap (record_for n) (sym (at_first e fs n number))) in
       let rest : lines ≡ records_from (e ∷ fs) (n + 1) (length lines) =
       others fs (subst (λ (m : ℕ). Ascends (m + 1) fs) number up.1) tail ∙ sym (records_after e fs (n + 1) (length lines) (omega (arith, number))) in
       λ i. one i ∷ rest i
 
 -- No entry has a number after them.
-numbers_most : (n : ℕ) (rs : List Record) (es : List Entry) → AreRecordsFrom n rs → messages rs ≡ map record_of es → AllByRecursion (λ (e : Entry). e.number < n + length rs) es
+numbers_most : (n : ℕ) (rs : List Record) (es : List Entry) → AreRecordsFrom form.Sha1 n rs → messages rs ≡ map record_of es → AllByRecursion (λ (e : Entry). e.number < n + length rs) es
 numbers_most n [] [] valid is = tt
 numbers_most n [] (e ∷ es) valid is = absurd (let wrong : [] ≡ record_of e ∷ map record_of es = is in cc)
 numbers_most n (line ∷ lines) es valid is = by (λ fs. numbers_most (n + 1) lines fs valid.1) (has_message line) es is where
@@ -141,7 +142,7 @@ opened_recovers root files rs entries has opened =
     let count = has.count in
     let all : messages rs ≡ map record_of (delivered entries) = opened.first.records ∙ append-nil (map record_of (delivered entries)) in
     let back : rs ≡ records_of a = records_back 1 rs (delivered entries) has.begins.valid (messages_ascend 1 0 entries opened.first.order) all ∙ ap (records_from (delivered entries) 1) count in
-    let size : 28 * length rs ≡ length (map_bytes a) = sym (records_length 1 rs has.begins.valid) ∙ ap (λ (l : List Record). length (flat_map record_bytes l)) back in
+    let size : 28 * length rs ≡ length (map_bytes a) = sym (records_length form.Sha1 1 rs has.begins.valid) ∙ ap (λ (l : List Record). length (flat_map record_bytes l)) back in
     let names : NamesArchive root a = record { is_root = has.is_root; fits = has.fits; config = refl; next = refl; epochs = opened.whole.lengths } in
     let cache_fits : length (cache_in root files) ≤ root.cache.length = (let size = length-take {A = ℕ} root.cache.length (bytes_of (files (cache_file_of root))) in omega (arith, size)) in
     let valid : IsArchive a = record {

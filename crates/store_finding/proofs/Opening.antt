@@ -6,7 +6,8 @@ use Rattle.std.proofs.lemmas.List.{append-nil, length-map, length-take, nil_from
 use Rattle.std.proofs.lemmas.List.Elements.{filter-append}
 use Rattle.std.proofs.lemmas.Bool.Decides.{nat_tests}
 use borrow.Author.Count.{below_more}
-use Rattle.arch_base.specs.declared.ids.Id20.{Id20}
+use Rattle.arch_base.specs.declared.ids.ObjectId.{ObjectId}
+use Rattle.arch_base.specs.declared.ids.Form.TheVariants as form
 use Rattle.disk_model.specs.Disk.{Files, File, bytes_of}
 use Rattle.arch_model.specs.Archives.{Entry, in_epoch}
 use Rattle.mail_commits.specs.Entries.{magic}
@@ -27,19 +28,19 @@ use Rattle.store_finding.proofs.Firsts.{all_last}
 use Rattle.store_finding.proofs.Joins.{all_joined, only_here}
 
 -- The bytes of entries are those of their records in the file.
-pub chain_of : (parent : Option Id20) (es : List Entry) → entries_bytes parent es ≡ chain parent (map in_file es)
+pub chain_of : (parent : Option ObjectId) (es : List Entry) → entries_bytes parent es ≡ chain parent (map in_file es)
 chain_of parent [] = refl
 chain_of parent (e ∷ es) = ap (λ (b : List ℕ). bytes_after parent (in_file e) ++ b) (chain_of (Some (commit_after parent (in_file e))) es)
 
-pub last_is : (parent : Option Id20) (es : List Entry) → last_commit parent es ≡ last_of parent (map in_file es)
+pub last_is : (parent : Option ObjectId) (es : List Entry) → last_commit parent es ≡ last_of parent (map in_file es)
 last_is parent [] = refl
 last_is parent (e ∷ es) = last_is (Some (commit_after parent (in_file e))) es
 
 -- The bytes of two lists of entries, one after the other.
-pub chain_joined : (parent : Option Id20) (xs ys : List EpochEntry) → chain parent (xs ++ ys) ≡ chain parent xs ++ chain (last_of parent xs) ys
+pub chain_joined : (parent : Option ObjectId) (xs ys : List EpochEntry) → chain parent (xs ++ ys) ≡ chain parent xs ++ chain (last_of parent xs) ys
 chain_joined parent [] ys = refl
 chain_joined parent (x ∷ xs) ys =
-    let next : Option Id20 = Some (commit_after parent x) in
+    let next : Option ObjectId = Some (commit_after parent x) in
     ap (λ (b : List ℕ). bytes_after parent x ++ b) (chain_joined next xs ys) ∙ sym (append_assoc (bytes_after parent x) (chain next xs) (chain (last_of next xs) ys))
 
 -- The last of valid entries, and the one after some.
@@ -63,7 +64,7 @@ not_here others more epoch other less stand =
     ∙ (ap (λ (l : List Entry). in_epoch others other ++ l) (none_apart more other (all_weaker (λ (e : Entry). e.epoch ≡ epoch) _ more (λ e same is. absurd (omega (arith, same, is, less))) stand)) ∙ append-nil (in_epoch others other))
 
 -- The bytes of an epoch that has an entry.
-some_bytes : (more : List Entry) → 0 < length more → epoch_bytes more ≡ magic ++ entries_bytes None more
+some_bytes : (more : List Entry) → 0 < length more → epoch_bytes more ≡ magic form.Sha1 ++ entries_bytes None more
 some_bytes [] some = absurd (omega (arith, some))
 some_bytes (e ∷ es) some = refl
 
@@ -99,7 +100,7 @@ walked_whole root files epoch others rs new seen whole walked joined =
     let count = walked.some in
     let files_are : length walked.entries ≡ length joined.more = ap (λ (l : List EpochEntry). length l) joined.are ∙ length-map joined.more in_file in
     let bytes : epoch_of walked.entries ≡ epoch_bytes joined.more =
-    ap (λ (l : List EpochEntry). magic ++ chain None l) joined.are ∙ (ap (λ (b : List ℕ). magic ++ b) (sym (chain_of None joined.more)) ∙ sym (some_bytes joined.more (omega (arith, count, files_are)))) in
+    ap (λ (l : List EpochEntry). magic form.Sha1 ++ chain None l) joined.are ∙ (ap (λ (b : List ℕ). magic form.Sha1 ++ b) (sym (chain_of None joined.more)) ∙ sym (some_bytes joined.more (omega (arith, count, files_are)))) in
     let long : named_length root epoch ≡ length (epoch_bytes joined.more) = walked.whole ∙ ap (λ (b : List ℕ). length b) bytes in
     whole_more root files epoch others joined.more whole joined.stand long
     (fronts_by (named_length root epoch) (epoch_bytes joined.more) (files (epoch_file_of root epoch)) (walked.spelled ∙ bytes) long)
@@ -110,7 +111,7 @@ empty_whole root files epoch others whole none =
     subst (AreWhole root files (epoch + 1)) (append-nil others) (whole_more root files epoch others [] whole tt none (record { long = omega arith; front = refl }))
 
 -- An entry has a byte.
-pub entry_some : (parent : Option Id20) (e : EpochEntry) → bytes_after parent e ≢ []
+pub entry_some : (parent : Option ObjectId) (e : EpochEntry) → bytes_after parent e ≢ []
 unfolding Rattle.mail_commits.specs.Entries.entry_bytes
 entry_some parent e is = absurd (cc)
 
@@ -129,11 +130,11 @@ early_next root files epoch offset others more rs after whole stand first ends a
       first = first;
       whole = whole;
       stand = stand;
-      spelled = ends.spelled ∙ ap (λ (b : List ℕ). (magic ++ b) ++ ends.rest) chains;
+      spelled = ends.spelled ∙ ap (λ (b : List ℕ). (magic form.Sha1 ++ b) ++ ends.rest) chains;
       offset_is = ends.offset_is ∙ ap (λ (b : List ℕ). 8 + length b) chains;
       wanted = elim ends.wanted [ inl none ↦ inl (nil_from_length more (sym (length-map more in_file) ∙ ap (λ (l : List EpochEntry). length l) (sym are ∙ none))) | inr less ↦ inr less ];
       lacks = λ next left tail same valid is.
-          ends.lacks (in_file next) tail (file_valid next (all_last IsEntry (others ++ more) next valid.valid)) (is ∙ ap (λ (p : Option Id20). bytes_after p (in_file next) ++ tail) (sym parents));
+          ends.lacks (in_file next) tail (file_valid next (all_last IsEntry (others ++ more) next valid.valid)) (is ∙ ap (λ (p : Option ObjectId). bytes_after p (in_file next) ++ tail) (sym parents));
     }
 
 -- An epoch whose entries could not all be joined is damaged at the first that could not.
@@ -147,15 +148,15 @@ stops_next differ root files epoch offset others rs here after short whole valid
     let chains : chain None here ≡ entries_bytes None stops.more ++ (wrong ++ tail) =
     ap (chain None) stops.are ∙ (chain_joined None (map in_file stops.more) (stops.wrong ∷ stops.rest)
     ∙ (ap (λ (b : List ℕ). b ++ chain (last_of None (map in_file stops.more)) (stops.wrong ∷ stops.rest)) (sym (chain_of None stops.more))
-    ∙ ap (λ (p : Option Id20). entries_bytes None stops.more ++ chain p (stops.wrong ∷ stops.rest)) parents)) in
+    ∙ ap (λ (p : Option ObjectId). entries_bytes None stops.more ++ chain p (stops.wrong ∷ stops.rest)) parents)) in
     let rest = wrong ++ (tail ++ after) in
-    let split : named_bytes root files epoch ≡ (magic ++ entries_bytes None stops.more) ++ rest =
-    spelled ∙ (ap (λ (b : List ℕ). (magic ++ b) ++ after) chains ∙ (ap (λ (b : List ℕ). b ++ after) (sym (append_assoc magic (entries_bytes None stops.more) (wrong ++ tail)))
-    ∙ (append_assoc (magic ++ entries_bytes None stops.more) (wrong ++ tail) after ∙ ap (λ (b : List ℕ). (magic ++ entries_bytes None stops.more) ++ b) (append_assoc wrong tail after)))) in
-    let size : length (named_bytes root files epoch) ≡ length ((magic ++ entries_bytes None stops.more) ++ rest) = ap (λ (b : List ℕ). length b) split in
+    let split : named_bytes root files epoch ≡ (magic form.Sha1 ++ entries_bytes None stops.more) ++ rest =
+    spelled ∙ (ap (λ (b : List ℕ). (magic form.Sha1 ++ b) ++ after) chains ∙ (ap (λ (b : List ℕ). b ++ after) (sym (append_assoc (magic form.Sha1) (entries_bytes None stops.more) (wrong ++ tail)))
+    ∙ (append_assoc (magic form.Sha1 ++ entries_bytes None stops.more) (wrong ++ tail) after ∙ ap (λ (b : List ℕ). (magic form.Sha1 ++ entries_bytes None stops.more) ++ b) (append_assoc wrong tail after)))) in
+    let size : length (named_bytes root files epoch) ≡ length ((magic form.Sha1 ++ entries_bytes None stops.more) ++ rest) = ap (λ (b : List ℕ). length b) split in
     let most = length-take (named_length root epoch) (bytes_of (files (epoch_file_of root epoch))) in
-    let front = length-append (magic ++ entries_bytes None stops.more) rest in
-    let head = length-append magic (entries_bytes None stops.more) in
+    let front = length-append (magic form.Sha1 ++ entries_bytes None stops.more) rest in
+    let head = length-append (magic form.Sha1) (entries_bytes None stops.more) in
     let step = length-append wrong (tail ++ after) in
     let is = stops.offset_is in
     let valid_wrong : IsEpochEntry stops.wrong = valid_after (map in_file stops.more) stops.wrong stops.rest (subst AreEpochEntries stops.are valid) in

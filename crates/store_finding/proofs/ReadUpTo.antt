@@ -3,7 +3,8 @@ use Rattle.std.specs.Prelude.{◌≡◌, ◌+◌, ◌<◌, ◌≤◌, ◌^◌, �
 use Rattle.std.proofs.Common.{◌∙◌, sym, ap, subst, inl, inr, arith, append_assoc, length-append}
 use Rattle.std.proofs.Math.Seq.{take-append_seam}
 use Rattle.std.proofs.lemmas.List.{append-nil, append_cancel_left, length-take, take-append-drop, nil_from_length}
-use Rattle.arch_base.specs.declared.ids.Id20.{Id20}
+use Rattle.arch_base.specs.declared.ids.ObjectId.{ObjectId}
+use Rattle.arch_base.specs.declared.ids.Form.TheVariants as form
 use Rattle.disk_model.specs.Disk.{File, Files, bytes_of}
 use Rattle.mail_commits.specs.Entries.{magic}
 use Rattle.number_map.specs.declared.line.Record.{Record}
@@ -57,7 +58,7 @@ read_stopped differ root files rs epoch offset old seen fits less up walked take
     ))
 
 -- Entries without bytes are none.
-no_bytes : (parent : Option Id20) (es : List EpochEntry) → length (chain parent es) ≡ 0 → es ≡ []
+no_bytes : (parent : Option ObjectId) (es : List EpochEntry) → length (chain parent es) ≡ 0 → es ≡ []
 no_bytes parent [] none = refl
 no_bytes parent (e ∷ es) none =
     let size = length-append (bytes_after parent e) (chain (Some (commit_after parent e)) es) in
@@ -77,7 +78,7 @@ read_front root files rs epoch offset old less some low up (inr ends) =
 left_bytes : (n offset : ℕ) (bytes : List ℕ) → (ends : EndsEarly n bytes offset) → take offset bytes ≡ epoch_of ends.entries
 left_bytes n offset bytes ends =
     let whole = epoch_of ends.entries in
-    let size : length whole ≡ offset = (let is = ends.offset_is in omega (arith, is, length-append magic (chain None ends.entries))) in
+    let size : length whole ≡ offset = (let is = ends.offset_is in omega (arith, is, length-append (magic form.Sha1) (chain None ends.entries))) in
     let all : bytes ≡ whole ++ (ends.rest ++ drop n bytes) = sym (take-append-drop n bytes) ∙ (ap (λ (b : List ℕ). b ++ drop n bytes) ends.spelled ∙ append_assoc whole ends.rest (drop n bytes)) in
     ap (take offset) all ∙ (ap (λ (m : ℕ). take m (whole ++ (ends.rest ++ drop n bytes))) (sym size) ∙ take-append_seam whole (ends.rest ++ drop n bytes))
 
@@ -86,13 +87,13 @@ left_within : (n offset : ℕ) (bytes : List ℕ) → EndsEarly n bytes offset �
 left_within n offset bytes ends =
     let size : length (take n bytes) ≡ length (epoch_of ends.entries ++ ends.rest) = ap (λ (b : List ℕ). length b) ends.spelled in
     let is = ends.offset_is in
-    omega (arith, size, is, length-take n bytes, length-append (epoch_of ends.entries) ends.rest, length-append magic (chain None ends.entries))
+    omega (arith, size, is, length-take n bytes, length-append (epoch_of ends.entries) ends.rest, length-append (magic form.Sha1) (chain None ends.entries))
 
 -- So a walk up to there reads the same entries.
 again : EpochsDiffer → (n offset : ℕ) (bytes : List ℕ) (seen : List Seen) → offset < 2 ^ 64 → (ends : EndsEarly n bytes offset) → (walked : IsEpoch offset bytes seen) → ends.entries ≡ walked.entries
 again differ n offset bytes seen short ends walked =
     let is = ends.offset_is in
-    differ ends.entries walked.entries ends.valid walked.valid (omega (arith, short, is, length-append magic (chain None ends.entries))) (sym (left_bytes n offset bytes ends) ∙ walked.spelled)
+    differ ends.entries walked.entries ends.valid walked.valid (omega (arith, short, is, length-append (magic form.Sha1) (chain None ends.entries))) (sym (left_bytes n offset bytes ends) ∙ walked.spelled)
 
 -- An epoch in which a walk ended later is damaged there if all entries up to there were joined.
 pub read_left : EpochsDiffer → (root : Root) (files : Files) (rs : List Record) (epoch offset : ℕ) (old new : JoinedEntries) (seen : List Seen) → RootFits root → epoch ≤ 63 → 8 < offset → IsReadUpTo root files rs epoch old
@@ -120,12 +121,12 @@ read_left_stopped entry differ root files rs epoch left offset old seen fits les
 -- A walk up to the offset at which a walk ended isn't damaged.
 pub left_undamaged : EntriesDiffer → (n left offset : ℕ) (bytes : List ℕ) → n < 2 ^ 64 → 8 < left → IsDamagedEpochAt n bytes left → IsDamagedEpochAt left bytes offset → ⊥
 left_undamaged differ n left offset bytes short high (inl lacks) other = absurd (let zero_is = lacks.0 in omega (arith, zero_is, high))
-left_undamaged differ n left offset bytes short high (inr ends) (inl lacks) = lacks.1 (ap (take 8) (left_bytes n left bytes ends) ∙ take-append_seam magic (chain None ends.entries))
+left_undamaged differ n left offset bytes short high (inr ends) (inl lacks) = lacks.1 (ap (take 8) (left_bytes n left bytes ends) ∙ take-append_seam (magic form.Sha1) (chain None ends.entries))
 left_undamaged differ n left offset bytes short high (inr ends) (inr other) =
     let within = left_within n left bytes ends in
     let is = ends.offset_is in
-    let split : magic ++ chain None ends.entries ≡ magic ++ (chain None other.entries ++ other.rest) = sym (left_bytes n left bytes ends) ∙ (other.spelled ∙ append_assoc magic (chain None other.entries) other.rest) in
-    let prefix = prefix_of differ None other.entries ends.entries other.rest other.valid ends.valid (omega (arith, within, short, is)) (append_cancel_left magic (chain None ends.entries) (chain None other.entries ++ other.rest) split) in
+    let split : magic form.Sha1 ++ chain None ends.entries ≡ magic form.Sha1 ++ (chain None other.entries ++ other.rest) = sym (left_bytes n left bytes ends) ∙ (other.spelled ∙ append_assoc (magic form.Sha1) (chain None other.entries) other.rest) in
+    let prefix = prefix_of differ None other.entries ends.entries other.rest other.valid ends.valid (omega (arith, within, short, is)) (append_cancel_left (magic form.Sha1) (chain None ends.entries) (chain None other.entries ++ other.rest) split) in
     by prefix.more prefix.is prefix.rest_is
   where
     by : (more : List EpochEntry) → ends.entries ≡ other.entries ++ more → other.rest ≡ chain (last_of None other.entries) more → ⊥

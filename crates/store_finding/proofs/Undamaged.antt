@@ -6,7 +6,8 @@ use Rattle.std.proofs.Math.Seq.{take-append_seam, drop-append_seam}
 use Rattle.std.proofs.lemmas.List.{append-nil, append_cancel_left, take-append-drop, length-map, map-append, take-map, drop-map}
 use Rattle.std.proofs.lemmas.List.Elements.{filter-append}
 use Rattle.std.proofs.lemmas.Bool.{cases_lt}
-use Rattle.arch_base.specs.declared.ids.Id20.{Id20}
+use Rattle.arch_base.specs.declared.ids.ObjectId.{ObjectId}
+use Rattle.arch_base.specs.declared.ids.Form.TheVariants as form
 use Rattle.disk_model.specs.Disk.{Files, bytes_of}
 use Rattle.arch_model.specs.Archives.{Entry, in_epoch, messages as delivered}
 use Rattle.mail_commits.specs.Entries.{magic}
@@ -106,7 +107,7 @@ last_epoch root files rs after es epoch first whole =
 -- The bytes of an epoch after the magic are a chain.
 tail_of : (es : List Entry) → chain None (map in_file es) ≡ drop 8 (epoch_bytes es)
 tail_of [] = refl
-tail_of (e ∷ es) = sym (chain_of None (e ∷ es)) ∙ sym (drop-append_seam magic (entries_bytes None (e ∷ es)))
+tail_of (e ∷ es) = sym (chain_of None (e ∷ es)) ∙ sym (drop-append_seam (magic form.Sha1) (entries_bytes None (e ∷ es)))
 
 files_valid : (es : List Entry) → AllByRecursion IsEntry es → AreEpochEntries (map in_file es)
 files_valid [] all = tt
@@ -140,8 +141,8 @@ module _ (root : Root) (files : Files) (rs : List Record) (fits : RootFits root)
       let size : length (chain None (map in_file one.upto.back)) ≡ length (drop 8 (epoch_bytes one.upto.back)) = ap length (tail_of one.upto.back) in
       let same : map in_file one.upto.back ≡ map in_file two.upto.back =
       differ (map in_file one.upto.back) (map in_file two.upto.back) (files_valid one.upto.back one.valid) (files_valid two.upto.back two.valid)
-      (omega (arith, short, long, size, length-append magic (chain None (map in_file one.upto.back)), length-drop 8 (epoch_bytes one.upto.back)))
-      (ap (λ (b : List ℕ). magic ++ b) (tail_of one.upto.back ∙ (ap (drop 8) bytes ∙ sym (tail_of two.upto.back)))) in
+      (omega (arith, short, long, size, length-append (magic form.Sha1) (chain None (map in_file one.upto.back)), length-drop 8 (epoch_bytes one.upto.back)))
+      (ap (λ (b : List ℕ). magic form.Sha1 ++ b) (tail_of one.upto.back ∙ (ap (drop 8) bytes ∙ sym (tail_of two.upto.back)))) in
       ap (map unnumbered) one.upto.is ∙ (map-append unnumbered one.upto.front one.upto.back
       ∙ ((λ i. fronts i ++ same_places epoch one.upto.back two.upto.back one.stand two.stand same i)
       ∙ sym (ap (map unnumbered) two.upto.is ∙ map-append unnumbered two.upto.front two.upto.back)))
@@ -167,10 +168,10 @@ no_front_lost : (root : Root) (files : Files) (rs : List Record) (entries : List
 no_front_lost root files rs entries epoch offset whole less lost = by (in_epoch entries epoch) (named_whole root files epoch _ (whole.lengths epoch less) (whole.fronts epoch less)) (whole.lengths epoch less) where
   by : (here : List Entry) → named_bytes root files epoch ≡ epoch_bytes here → named_length root epoch ≡ length (epoch_bytes here) → ⊥
   by [] is long = let some = lost.some in absurd (omega (arith, some, long))
-  by (e ∷ es) is long = lost.lacks (ap (take 8) is ∙ take-append_seam magic (entries_bytes None (e ∷ es)))
+  by (e ∷ es) is long = lost.lacks (ap (take 8) is ∙ take-append_seam (magic form.Sha1) (entries_bytes None (e ∷ es)))
 
 -- Entries whose bytes start others' bytes are the first of them.
-pub record Prefix (parent : Option Id20) (xs ys : List EpochEntry) (rest : List ℕ) : Type 0 where
+pub record Prefix (parent : Option ObjectId) (xs ys : List EpochEntry) (rest : List ℕ) : Type 0 where
   pub more : List EpochEntry
   pub is : ys ≡ xs ++ more
   pub rest_is : rest ≡ chain (last_of parent xs) more
@@ -179,11 +180,11 @@ no_front : (b c r : List ℕ) → [] ≡ (b ++ c) ++ r → b ≡ []
 no_front [] c r is = refl
 no_front (z ∷ zs) c r is = absurd (cc)
 
-pub prefix_of : EntriesDiffer → (parent : Option Id20) (xs ys : List EpochEntry) (rest : List ℕ) → AreEpochEntries xs → AreEpochEntries ys → length (chain parent ys) < 2 ^ 64 → chain parent ys ≡ chain parent xs ++ rest → Prefix parent xs ys rest
+pub prefix_of : EntriesDiffer → (parent : Option ObjectId) (xs ys : List EpochEntry) (rest : List ℕ) → AreEpochEntries xs → AreEpochEntries ys → length (chain parent ys) < 2 ^ 64 → chain parent ys ≡ chain parent xs ++ rest → Prefix parent xs ys rest
 prefix_of differ parent [] ys rest valid also short is = record { more = ys; is = refl; rest_is = sym is }
 prefix_of differ parent (x ∷ xs) [] rest valid also short is = absurd (entry_some parent x (no_front (bytes_after parent x) (chain (Some (commit_after parent x)) xs) rest is))
 prefix_of differ parent (x ∷ xs) (y ∷ ys) rest valid also short is =
-    let next : Option Id20 = Some (commit_after parent x) in
+    let next : Option ObjectId = Some (commit_after parent x) in
     let tail = chain (Some (commit_after parent y)) ys in
     let one = differ parent y x tail (chain next xs ++ rest) also.0 valid.0 short (is ∙ append_assoc (bytes_after parent x) (chain next xs) rest) in
     let same : chain next ys ≡ chain next xs ++ rest = ap (λ (e : EpochEntry). chain (Some (commit_after parent e)) ys) (sym one.0) ∙ one.1 in
@@ -201,8 +202,8 @@ none_lost entry epochs root files rs entries epoch offset fits opened less lost 
     let count = length lost.here in
     let named : named_bytes root files epoch ≡ epoch_bytes here = named_whole root files epoch (epoch_bytes here) last.long last.front in
     let begins : chain None (map in_file here) ≡ chain None (map in_file lost.here) ++ lost.rest =
-    tail_of here ∙ (ap (drop 8) (sym named ∙ (lost.spelled ∙ append_assoc magic (entries_bytes None lost.here) lost.rest))
-    ∙ (drop-append_seam magic (entries_bytes None lost.here ++ lost.rest) ∙ ap (λ (b : List ℕ). b ++ lost.rest) (chain_of None lost.here))) in
+    tail_of here ∙ (ap (drop 8) (sym named ∙ (lost.spelled ∙ append_assoc (magic form.Sha1) (entries_bytes None lost.here) lost.rest))
+    ∙ (drop-append_seam (magic form.Sha1) (entries_bytes None lost.here ++ lost.rest) ∙ ap (λ (b : List ℕ). b ++ lost.rest) (chain_of None lost.here))) in
     let size : length (chain None (map in_file here)) ≡ length (drop 8 (epoch_bytes here)) = ap length (tail_of here) in
     let long = last.long in
     let short = (fits.epochs epoch less).length in
@@ -220,9 +221,9 @@ none_lost entry epochs root files rs entries epoch offset fits opened less lost 
     let places = same_places epoch (take count here) lost.here (all_front (λ (e : Entry). e.epoch ≡ epoch) (take count here) (drop count here) stand) lost.stand start in
     let same : xs ≡ lost.before ++ lost.here = same_first rs _ lost.after xs (lost.before ++ lost.here) (first_front rs [] xs (drop count here ++ all.back) (subst (AreFirst rs []) whole opened.first)) lost.first
     (map-append unnumbered last.upto.front (take count here) ∙ ((λ i. map unnumbered (before i) ++ places i) ∙ sym (map-append unnumbered lost.before lost.here))) in
-    let total : length (epoch_bytes here) ≡ length ((magic ++ entries_bytes None lost.here) ++ lost.rest) = ap length (sym named ∙ lost.spelled) in
+    let total : length (epoch_bytes here) ≡ length ((magic form.Sha1 ++ entries_bytes None lost.here) ++ lost.rest) = ap length (sym named ∙ lost.spelled) in
     by here all.back (drop count here) refl (all_back (λ (e : Entry). e.epoch ≡ epoch) (take count here) (drop count here) stand) (prefix.rest_is ∙ (λ i. chain (sym (last_is None lost.here) i) (sym left i)))
-    (omega (arith, long, total, length-append (magic ++ entries_bytes None lost.here) lost.rest, length-append magic (entries_bytes None lost.here)))
+    (omega (arith, long, total, length-append (magic form.Sha1 ++ entries_bytes None lost.here) lost.rest, length-append (magic form.Sha1) (entries_bytes None lost.here)))
     long (whole ∙ (λ i. same i ++ (drop count here ++ all.back)))
   where
     by : (here back more : List Entry) → drop (length lost.here) here ≡ more → AllByRecursion (λ (e : Entry). e.epoch ≡ epoch) more → lost.rest ≡ chain (last_commit None lost.here) (map in_file more)

@@ -2,6 +2,7 @@
 -- the first offset at which they stand for none.
 use Rattle.std.specs.Prelude.{◌≡◌, ◌≢◌, ◌⊎◌, ◌+◌, ◌<◌, ℕ, nat_lt, Bool, List, [], ◌∷◌, ◌++◌, length, take, map, get_or, None}
 use Rattle.std.specs.List.{AllByRecursion, filter}
+use Rattle.arch_base.specs.declared.ids.Form.TheVariants as form
 use Rattle.disk_model.specs.Disk.{Files, bytes_of}
 use Rattle.disk_model.specs.Sizes.{epoch_count}
 use Rattle.git_objects.specs.Objects.{blob_id_of}
@@ -28,7 +29,7 @@ messages rs = filter has_message rs
 
 -- The record of an entry.
 abbrev pub record_of : Entry → Record
-record_of e = record { number = e.number; epoch = e.epoch; blob = blob_id_of e.text }
+record_of e = record { number = e.number; epoch = e.epoch; blob = blob_id_of form.Sha1 e.text }
 
 -- These may be an archive's entries: numbers rise, each deletion ends a live message, the ids of live
 -- messages differ at each place, and each blob id has one text. The records of their messages are
@@ -88,7 +89,7 @@ pub record LacksNext (root : Root) (files : Files) (rs : List Record) (epoch off
   pub first : AreFirst rs after (before ++ here)
   pub whole : AreWhole root files epoch before
   pub stand : AllByRecursion (λ (e : Entry). e.epoch ≡ epoch) here
-  pub spelled : named_bytes root files epoch ≡ (magic ++ entries_bytes None here) ++ rest
+  pub spelled : named_bytes root files epoch ≡ (magic form.Sha1 ++ entries_bytes None here) ++ rest
   pub offset_is : offset ≡ 8 + length (entries_bytes None here)
   pub wanted : (here ≡ []) ⊎ (offset < named_length root epoch)
   pub lacks : (next : Entry) (others : List Record) (more : List ℕ) → next.epoch ≡ epoch

@@ -1,6 +1,7 @@
 -- The result of reading an archive's files when it is opened: what is kept of the archive, that
 -- there is none, or the first offset at which the files that the root names aren't in their form.
 use Rattle.std.specs.Prelude.{◌≡◌, ◌⊎◌, ◌+◌, ◌-◌, ◌<◌, ℕ, List, length, Result, Ok, Err}
+use Rattle.arch_base.specs.declared.ids.Form.TheVariants as form
 use Rattle.disk_model.specs.declared.name.FileName.{FileName}
 use Rattle.disk_model.specs.Disk.{Files, bytes_of}
 use Rattle.disk_model.specs.Sizes.{epoch_count}
@@ -35,7 +36,7 @@ pub record IsCurrentRoot (root : Root) (slot : ℕ) (files : Files) : Type 0 whe
 
 -- The map that a root names starts with the records of all numbers below the next one.
 pub record HasRecords (root : Root) (files : Files) (rs : List Record) : Type 0 where
-  pub begins : BeginsWithRecords rs (bytes_of (files (map_file_of root)))
+  pub begins : BeginsWithRecords form.Sha1 rs (bytes_of (files (map_file_of root)))
   pub count : length rs ≡ root.next - 1
 
 -- What was found is what the files stand for: their current root and its slot, and the entries of

@@ -2,6 +2,7 @@
 use Rattle.std.specs.Prelude.{◌≡◌, ◌⊎◌, ◌+◌, ◌<◌, ◌≤◌, ℕ, Bool, true, take, drop, List, [], ◌∷◌, ◌++◌, length, map, slice_get, Option, Some, None, Result, Ok, Err}
 use Rattle.std.specs.List.{AllByRecursion, filter}
 use Rattle.std.specs.Str.{bytes_eq}
+use Rattle.arch_base.specs.declared.ids.Form.TheVariants as form
 use Rattle.disk_model.specs.Sizes.{epoch_count}
 use Rattle.arch_model.specs.Epochs.{entries_bytes}
 use Rattle.arch_model.specs.Archives.{Entry, is_message, live, owner, blob_number}
@@ -35,7 +36,7 @@ pub record JoinedEntries : Type 0 where
 -- The records are those of a valid map that have a message, the entries are these, and their
 -- records are the first of them, followed by the others.
 pub record HoldsJoined (v : JoinedEntries) (rs after : List Record) (entries : List Entry) : Type 0 where
-  pub numbered : AreRecordsFrom 1 rs
+  pub numbered : AreRecordsFrom form.Sha1 1 rs
   pub records : v.records ≡ messages rs
   pub entries_are : v.entries ≡ stored_after [] entries
   pub first : AreFirst rs after entries
@@ -137,7 +138,7 @@ pub record JoinsDeletion (all : List Entry) (seen : Seen) (number : ℕ) : Type 
   pub deletion : seen.kind ≡ Deletion
   pub ended : Entry
   pub live : owner (live all) seen.id ≡ Some ended
-  pub blob : blob_id_of ended.text ≡ seen.blob
+  pub blob : blob_id_of form.Sha1 ended.text ≡ seen.blob
   pub number_is : ended.number ≡ number
 
 -- The number of the message that a deletion ends, or that it ends none.

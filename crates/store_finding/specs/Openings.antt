@@ -1,5 +1,6 @@
 -- What is found when an archive is opened is what its files stand for.
 use Rattle.std.specs.Prelude.{◌≡◌, ◌-◌, ℕ, List, [], length, take}
+use Rattle.arch_base.specs.declared.ids.Form.TheVariants as form
 use Rattle.disk_model.specs.Disk.{Files, bytes_of}
 use Rattle.arch_model.specs.Archives.{Entry, Archive}
 use Rattle.number_map.specs.declared.line.Record.{Record}
@@ -27,7 +28,7 @@ pub record HasMap (root : Root) (files : Files) (rs : List Record) : Type 0 wher
   pub fits : RootFits root
   pub current : IfThere (HasRoot (spelling root)) (files root_name)
   pub count : length rs ≡ root.next - 1
-  pub begins : BeginsWithRecords rs (bytes_of (files (map_file_of root)))
+  pub begins : BeginsWithRecords form.Sha1 rs (bytes_of (files (map_file_of root)))
 
 -- The epochs below one are read and whole, and their entries are joined to the first records of the
 -- map.
@@ -75,6 +76,6 @@ RecoversMap = (root : Root) (files : Files) (a : Archive) (cache : List ℕ)
 abbrev pub RecoversUndamaged : Type 0
 RecoversUndamaged =
     (root : Root) (files : Files) (a : Archive) (cache : List ℕ) → RecoversArchiveBy root cache files a
-    → ((offset : ℕ) → LacksRecord (root.next - 1) offset (bytes_of (files (map_file_of root))) → ⊥)
+    → ((offset : ℕ) → LacksRecord form.Sha1 (root.next - 1) offset (bytes_of (files (map_file_of root))) → ⊥)
     × ((rs : List Record) (epoch offset : ℕ) → HasMap root files rs
     → IsFirstDamage root files rs epoch offset → ⊥)

@@ -1,5 +1,6 @@
 -- Texts that are read from files.
 use Rattle.std.specs.Prelude.{◌≡◌, ◌+◌, ◌≤◌, ℕ, List, length, take, drop}
+use Rattle.arch_base.specs.declared.ids.Form.TheVariants as form
 use Rattle.disk_model.specs.Disk.{Content, bytes_of}
 use Rattle.git_objects.specs.Objects.{blob_id_of}
 use Rattle.arch_model.specs.Archives.{Entry}
@@ -15,5 +16,5 @@ StandsAt file offset size text = offset + size ≤ length file → text ≡ take
 pub record HasText (root : Root) (s : StoredEntry) (k : Content) : Type 0 where
   pub long : s.seen.text_at + s.seen.size
       ≤ length (bytes_of (k (epoch_file_of root s.epoch)).seen)
-  pub blob : blob_id_of (take s.seen.size (drop s.seen.text_at
+  pub blob : blob_id_of form.Sha1 (take s.seen.size (drop s.seen.text_at
       (bytes_of (k (epoch_file_of root s.epoch)).seen))) ≡ s.seen.blob

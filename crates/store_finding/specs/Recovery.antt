@@ -1,6 +1,7 @@
 -- Which files stand for an archive.
 use Rattle.std.specs.Prelude.{◌≡◌, ◌+◌, ◌-◌, ◌<◌, ◌≤◌, ◌==◌, ℕ, zero, suc, List, [], ◌∷◌, length, get_or, replicate, Option, Some, None, if◌then◌else◌}
 use Rattle.std.specs.List.{flat_map}
+use Rattle.arch_base.specs.declared.ids.Form.TheVariants as form
 use Rattle.disk_model.specs.declared.name.FileKind.TheVariants as kind
 use Rattle.disk_model.specs.Disk.{Files}
 use Rattle.disk_model.specs.Sizes.{epoch_count}
@@ -25,7 +26,7 @@ entry_of (e ∷ es) n = if e.number == n then Some e else entry_of es n
 -- The record of a number: the epoch and the blob id of its message, or that it has none.
 abbrev pub record_for : ℕ → Option Entry → Record
 record_for n None = record { number = n; epoch = 4294967295; blob = record { 0 = replicate 20 0 } }
-record_for n (Some e) = record { number = n; epoch = e.epoch; blob = blob_id_of e.text }
+record_for n (Some e) = record { number = n; epoch = e.epoch; blob = blob_id_of form.Sha1 e.text }
 
 -- The records of `count` numbers from one on.
 abbrev pub records_from : List Entry → ℕ → ℕ → List Record

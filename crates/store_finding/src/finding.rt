@@ -2,6 +2,7 @@
 //! Reads the disk.
 ghost use Rattle.std.specs.Prelude.{◌≡◌, ◌≢◌, ◌+◌, ◌<◌, ◌≤◌, Err, IfOk, get_or};
 ghost use Rattle.arch_base.specs.Counts.{Rose, RoseIf};
+ghost use Rattle.arch_base.specs.declared.ids.Form.TheVariants as form;
 ghost use Rattle.disk_model.specs.Disk.{Image, BothTold, WhereTold, Unchanged};
 ghost use Rattle.disk_model.specs.Moments.{LeavesOnly};
 ghost use Rattle.disk_model.specs.Sizes.{epoch_count, greatest_epoch};
@@ -102,7 +103,7 @@ fn find_root<D: Disk>(disk: &mut D) -> Result<(Slot, Root), OpenRefusal>
 fn find_records<D: Disk>(alloc: Global, disk: &mut D, root: &Root) -> Result<Records, OpenRefusal>
     requires root { IsRoot root.now }
     ensures found { WhereTold (λ k. FindsRecords root.now (as_read k) result) (D.content disk.old) }
-    ensures valid { IfOk result (AreRecordsFrom 1) }
+    ensures valid { IfOk result (AreRecordsFrom form.Sha1 1) }
     ensures reads { OnlyReads D.Disk disk.old disk.new }
     ensures fault { result ≡ Err OpenRefusal.DiskFault
         → Rose (D.faults disk.old) (D.faults disk.new) }
@@ -305,7 +306,7 @@ fn read_epochs<D: Disk>(
     root: &Root,
     records: &Records,
 ) -> Result<IndexedEntries, OpenRefusal>
-    requires valid { AreRecordsFrom 1 records.now }
+    requires valid { AreRecordsFrom form.Sha1 1 records.now }
     ensures kept { WhereTold (λ k.
         KeepsBy root.now records.now result (as_read k)) (D.content disk.old) }
     ensures small { IfOk result (λ kept. AreBefore epoch_count kept) }

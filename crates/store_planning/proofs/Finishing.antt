@@ -1,6 +1,7 @@
 -- The plans of a planner that is finished may be carried out.
 use Rattle.std.specs.Prelude.{◌≡◌, ◌+◌, ◌<◌, ◌≤◌, ℕ, List, [], ◌∷◌, ◌++◌, slice_get, Option, Some, None}
 use Rattle.std.proofs.Common.{◌∙◌, sym, ap, subst, arith}
+use Rattle.arch_base.specs.declared.ids.Form.TheVariants as form
 use Rattle.disk_model.specs.declared.name.FileKind.{FileKind}
 use Rattle.disk_model.specs.declared.name.FileKind.TheVariants as kind
 use Rattle.disk_model.specs.declared.name.FileName.{FileName}
@@ -34,7 +35,7 @@ epoch_anew root p in_ =
       valid = in_.of.valid;
     }
 
-map_anew : (root : Root) (map : FileName) (count : ℕ) (gone : List ℕ) (p : Plan) → map ≡ map_file_of root → PlansMap map count gone p → IsAnewIn root p
+map_anew : (root : Root) (map : FileName) (count : ℕ) (gone : List ℕ) (p : Plan) → map ≡ map_file_of root → PlansMap form.Sha1 map count gone p → IsAnewIn root p
 map_anew root map count gone p map_is of =
     let own : IsPlanFrom (file_by root kind.Map 0) p = subst (λ (f : FileName). IsPlanFrom f p) map_is of.from in
     let at_number : IsPlanFrom (file_by root kind.Map p.number) p = subst (λ (n : ℕ). IsPlanFrom (file_by root kind.Map n) p) (sym of.number) own in
@@ -61,7 +62,7 @@ module _ (root : Root) (old : Planning) (map : FileName) (count : ℕ) (new : Pl
   abbrev plan : Plan
   plan = finishes.2.0
 
-  of : PlansMap map count mid.gone plan
+  of : PlansMap form.Sha1 map count mid.gone plan
   of = finishes.2.1
 
   pushes : Pushes mid plan new

@@ -2,7 +2,7 @@
 use Rattle.std.specs.Prelude.{◌≡◌, ◌+◌, ◌==◌, ℕ, Bool, true, false, ◌&&◌, ◌||◌, if◌then◌else◌, List, [], ◌∷◌, ◌++◌, Option, Some, None, is_some, refl}
 use Rattle.std.specs.Str.{bytes_eq}
 use Rattle.std.proofs.Common.{◌∙◌, sym, ap, inl, inr}
-use Rattle.arch_base.specs.declared.ids.Id20.{Id20}
+use Rattle.arch_base.specs.declared.ids.ObjectId.{ObjectId}
 use Rattle.disk_model.specs.Disk.{Content}
 use Rattle.disk_model.specs.declared.name.FileKind.{FileKind}
 use Rattle.disk_model.specs.declared.name.FileKind.TheVariants as kind
@@ -67,7 +67,7 @@ opened_some old file (Some c) mid plan e (inr next) = (
 )
 
 -- An entry was kept, or left out.
-pub kept_changes : (old : Planning) (file : FileName) (stored : StoredEntry) (blob : Id20) (content : Option Content) (mid new : Planning) (plan : Planned) → OpensPlan old file mid plan → bytes_eq blob.0 stored.seen.blob.0 ≡ false → PlansEntry mid plan stored content new → ChangesNext old file.number (bytes_eq blob.0 stored.seen.blob.0) new
+pub kept_changes : (old : Planning) (file : FileName) (stored : StoredEntry) (blob : ObjectId) (content : Option Content) (mid new : Planning) (plan : Planned) → OpensPlan old file mid plan → bytes_eq blob.0 stored.seen.blob.0 ≡ false → PlansEntry mid plan stored content new → ChangesNext old file.number (bytes_eq blob.0 stored.seen.blob.0) new
 kept_changes old file stored blob content mid new plan opens test keeps = λ e.
     let so = opened_some old file old.current mid plan e opens in
     let some = is_some (plan_of mid.plans kind.Epoch e) in
@@ -76,7 +76,7 @@ kept_changes old file stored blob content mid new plan opens test keeps = λ e.
     ∙ (ap (λ (f : FileName). some || (is_some plan.changed && (f.number == e))) keeps.file
     ∙ (so.1 ∙ (sym (or_no (is_anew old e)) ∙ ap (λ (t : Bool). is_anew old e || (t && (file.number == e))) (sym test)))))
 
-pub left_changes : (old : Planning) (file : FileName) (stored : StoredEntry) (blob : Id20) (mid new : Planning) (plan : Planned) → OpensPlan old file mid plan → bytes_eq blob.0 stored.seen.blob.0 ≡ true → LeavesOut mid plan stored new → ChangesNext old file.number (bytes_eq blob.0 stored.seen.blob.0) new
+pub left_changes : (old : Planning) (file : FileName) (stored : StoredEntry) (blob : ObjectId) (mid new : Planning) (plan : Planned) → OpensPlan old file mid plan → bytes_eq blob.0 stored.seen.blob.0 ≡ true → LeavesOut mid plan stored new → ChangesNext old file.number (bytes_eq blob.0 stored.seen.blob.0) new
 left_changes old file stored blob mid new plan opens test left = λ e.
     let so = opened_some old file old.current mid plan e opens in
     let some = is_some (plan_of mid.plans kind.Epoch e) in

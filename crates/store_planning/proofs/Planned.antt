@@ -8,7 +8,8 @@ use Rattle.std.proofs.lemmas.Bool.Decides.{nat_tests}
 use Rattle.std.proofs.lemmas.List.{append-nil}
 use Rattle.std.proofs.lemmas.List.Elements.{filter-append}
 use Rattle.std.proofs.lemmas.Option.{same_Some}
-use Rattle.arch_base.specs.declared.ids.Id20.{Id20}
+use Rattle.arch_base.specs.declared.ids.ObjectId.{ObjectId}
+use Rattle.arch_base.specs.declared.ids.Form.TheVariants as form
 use Rattle.disk_model.specs.declared.name.FileKind.{FileKind}
 use Rattle.disk_model.specs.declared.name.FileKind.TheVariants as kind
 use Rattle.disk_model.specs.declared.name.FileName.{FileName}
@@ -123,40 +124,40 @@ last_more (x ∷ es) e all =
     ap (greater x.epoch) rest ∙ greater_is x.epoch e.epoch all.0
 
 -- The bytes of entries as those of the entries of a file.
-chain_is : (parent : Option Id20) (es : List Entry) → entries_bytes parent es ≡ chain parent (in_files es)
+chain_is : (parent : Option ObjectId) (es : List Entry) → entries_bytes parent es ≡ chain parent (in_files es)
 chain_is parent [] = refl
-chain_is parent (e ∷ es) = ap (λ (b : List ℕ). entry_bytes e.kind e.text e.moment parent ++ b) (chain_is (Some (commit_id e.kind e.text e.moment parent)) es)
+chain_is parent (e ∷ es) = ap (λ (b : List ℕ). entry_bytes form.Sha1 e.kind e.text e.moment parent ++ b) (chain_is (Some (commit_id form.Sha1 e.kind e.text e.moment parent)) es)
 
-pub commit_is : (parent : Option Id20) (es : List Entry) → last_commit parent es ≡ last_of parent (in_files es)
+pub commit_is : (parent : Option ObjectId) (es : List Entry) → last_commit parent es ≡ last_of parent (in_files es)
 commit_is parent [] = refl
-commit_is parent (e ∷ es) = commit_is (Some (commit_id e.kind e.text e.moment parent)) es
+commit_is parent (e ∷ es) = commit_is (Some (commit_id form.Sha1 e.kind e.text e.moment parent)) es
 
 pub file_is : (es : List Entry) → epoch_bytes es ≡ file_of (in_files es)
 file_is [] = refl
-file_is (e ∷ es) = ap (λ (b : List ℕ). magic ++ b) (chain_is None (e ∷ es))
+file_is (e ∷ es) = ap (λ (b : List ℕ). magic form.Sha1 ++ b) (chain_is None (e ∷ es))
 
 files_more : (es : List Entry) (e : Entry) → in_files (es ++ e ∷ []) ≡ in_files es ++ in_file e ∷ []
 files_more [] e = refl
 files_more (x ∷ es) e = ap (λ (l : List EpochEntry). in_file x ∷ l) (files_more es e)
 
 -- With one among them.
-chain_split : (parent : Option Id20) (xs : List Entry) (e : Entry) (ys : List Entry)
+chain_split : (parent : Option ObjectId) (xs : List Entry) (e : Entry) (ys : List Entry)
     → chain parent (in_files (xs ++ e ∷ ys)) ≡ chain parent (in_files xs ++ in_file e ∷ []) ++ chain (Some (commit_after (last_of parent (in_files xs)) (in_file e))) (in_files ys)
 chain_split parent [] e ys = ap (λ (b : List ℕ). b ++ chain (Some (commit_after parent (in_file e))) (in_files ys)) (sym (append-nil (bytes_after parent (in_file e))))
 chain_split parent (x ∷ xs) e ys =
-    let next : Option Id20 = Some (commit_after parent (in_file x)) in
+    let next : Option ObjectId = Some (commit_after parent (in_file x)) in
     ap (λ (b : List ℕ). bytes_after parent (in_file x) ++ b) (chain_split next xs e ys)
     ∙ sym (append_assoc (bytes_after parent (in_file x)) (chain next (in_files xs ++ in_file e ∷ [])) (chain (Some (commit_after (last_of next (in_files xs)) (in_file e))) (in_files ys)))
 
-whole_is : (xs : List Entry) (e : Entry) (ys : List Entry) → epoch_bytes (xs ++ e ∷ ys) ≡ magic ++ chain None (in_files (xs ++ e ∷ ys))
-whole_is [] e ys = ap (λ (b : List ℕ). magic ++ b) (chain_is None (e ∷ ys))
-whole_is (x ∷ xs) e ys = ap (λ (b : List ℕ). magic ++ b) (chain_is None ((x ∷ xs) ++ e ∷ ys))
+whole_is : (xs : List Entry) (e : Entry) (ys : List Entry) → epoch_bytes (xs ++ e ∷ ys) ≡ magic form.Sha1 ++ chain None (in_files (xs ++ e ∷ ys))
+whole_is [] e ys = ap (λ (b : List ℕ). magic form.Sha1 ++ b) (chain_is None (e ∷ ys))
+whole_is (x ∷ xs) e ys = ap (λ (b : List ℕ). magic form.Sha1 ++ b) (chain_is None ((x ∷ xs) ++ e ∷ ys))
 
 -- What is kept of an entry is what is recorded of it in its file.
 pub seen_is : (es : List Entry) (e : Entry) → (stored_at es e).seen ≡ seen_after (in_files (in_epoch es e.epoch)) (in_file e)
 seen_is es e = λ i. seen_at (at i) (commit_is None (in_epoch es e.epoch) i) (in_file e) where
   at : 8 + length (entries_bytes None (in_epoch es e.epoch)) ≡ length (epoch_of (in_files (in_epoch es e.epoch)))
-  at = ap (λ (b : List ℕ). 8 + length b) (chain_is None (in_epoch es e.epoch)) ∙ sym (length-append magic (chain None (in_files (in_epoch es e.epoch))))
+  at = ap (λ (b : List ℕ). 8 + length b) (chain_is None (in_epoch es e.epoch)) ∙ sym (length-append (magic form.Sha1) (chain None (in_files (in_epoch es e.epoch))))
 
 -- The numbers of messages with a text, with one more entry.
 gone_step : (t : Bool) (n : ℕ) (ns more : List ℕ) → (if t then n ∷ (ns ++ more) else (ns ++ more)) ≡ (if t then n ∷ ns else ns) ++ more
@@ -296,7 +297,7 @@ module _ (k : Content) (v : StoreState) (cache : List ℕ) (a : Archive) (own : 
   entry : IsEntry e
   entry = one_of_all IsEntry es e rest (subst (AllByRecursion IsEntry) is own.keeps.valid.entries)
 
-  bytes_are : bytes_in a e.epoch ≡ magic ++ chain None (in_files (in_epoch es e.epoch ++ e ∷ in_epoch rest e.epoch))
+  bytes_are : bytes_in a e.epoch ≡ magic form.Sha1 ++ chain None (in_files (in_epoch es e.epoch ++ e ∷ in_epoch rest e.epoch))
   bytes_are =
       ap (λ (l : List Entry). epoch_bytes (in_epoch l e.epoch)) is
       ∙ (ap epoch_bytes (in_epoch_split es e rest) ∙ whole_is (in_epoch es e.epoch) e (in_epoch rest e.epoch))
@@ -307,7 +308,7 @@ module _ (k : Content) (v : StoreState) (cache : List ℕ) (a : Archive) (own : 
       let generation = (get_or v.root.epochs e.epoch no_place).generation in
       let low = entry.epoch in
       let size = ap length bytes_are in
-      let parts = length-append magic (chain None (in_files (in_epoch es e.epoch ++ e ∷ in_epoch rest e.epoch))) in
+      let parts = length-append (magic form.Sha1) (chain None (in_files (in_epoch es e.epoch ++ e ∷ in_epoch rest e.epoch))) in
       let long = own.keeps.names.epochs e.epoch (omega (arith, low)) in
       let some : 0 < (get_or v.root.epochs e.epoch no_place).length = omega (arith, size, parts, long) in
       own.on.exact.ends name (epoch_isnt_root e.epoch generation) ∙ text_named v.root (parts_of a cache) name (epoch_is_named v.root e.epoch generation (omega (arith, low)) some refl)
@@ -321,7 +322,7 @@ module _ (k : Content) (v : StoreState) (cache : List ℕ) (a : Archive) (own : 
       record {
         valid = record { text = entry.text; moment = entry.moment };
         rest = more;
-        is = file_reads ∙ (bytes_are ∙ (ap (λ (b : List ℕ). magic ++ b) (chain_split None xs e ys) ∙ sym (append_assoc magic (chain None (in_files xs ++ in_file e ∷ [])) more)));
+        is = file_reads ∙ (bytes_are ∙ (ap (λ (b : List ℕ). magic form.Sha1 ++ b) (chain_split None xs e ys) ∙ sym (append_assoc (magic form.Sha1) (chain None (in_files xs ++ in_file e ∷ [])) more)));
       }
 
   module _ (old : Planning) (up : IsPlannedUpTo (texts_in k) v.root a es text old) (file : FileName) (file_by : file ≡ epoch_file_of v.root e.epoch) where

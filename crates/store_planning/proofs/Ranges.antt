@@ -4,6 +4,7 @@ use Rattle.std.specs.List.{flat_map}
 use Rattle.std.proofs.Common.{◌∙◌, sym, ap, subst, inl, inr, arith}
 use Rattle.std.proofs.lemmas.Bool.{cases_lt}
 use Rattle.std.proofs.lemmas.List.{take_all}
+use Rattle.arch_base.specs.declared.ids.Form.TheVariants as form
 use Rattle.disk_model.specs.declared.name.FileKind.{FileKind}
 use Rattle.disk_model.specs.declared.name.FileKind.TheVariants as kind
 use Rattle.disk_model.specs.declared.name.FileName.{FileName}
@@ -48,7 +49,7 @@ epoch_within root plan in_ up = λ j s found.
     source_within root (epoch_file_of root plan.number) s (named_length root plan.number) (in_.of.from j s found) (sym (counts_all root kind.Epoch plan.number (omega (arith, low)))) (up j s found)
 
 -- The plan of a map takes ranges of its records: so it is where these have no message.
-map_up : (map : FileName) (count : ℕ) (gone : List ℕ) (plan : Plan) → PlansMap map count gone plan → EndUpTo (28 * count) plan
+map_up : (map : FileName) (count : ℕ) (gone : List ℕ) (plan : Plan) → PlansMap form.Sha1 map count gone plan → EndUpTo (28 * count) plan
 map_up map count gone plan of = λ j s found. by s (whole j s found) where
   lines : List Record
   lines = records_from [] 1 count
@@ -56,14 +57,14 @@ map_up map count gone plan of = λ j s found. by s (whole j s found) where
   bytes : List ℕ
   bytes = flat_map record_bytes lines
 
-  valid : AreRecordsFrom 1 lines
+  valid : AreRecordsFrom form.Sha1 1 lines
   valid = records_are_valid [] 1 count tt
 
   size : length bytes ≡ 28 * count
-  size = records_length 1 lines valid ∙ ap (λ (n : ℕ). 28 * n) (records_count [] 1 count)
+  size = records_length form.Sha1 1 lines valid ∙ ap (λ (n : ℕ). 28 * n) (records_count [] 1 count)
 
-  begins : BeginsWithRecords lines bytes
-  begins = record { valid = valid; spelled = take_all (28 * length lines) bytes (let long = records_length 1 lines valid in omega (arith, long)) }
+  begins : BeginsWithRecords form.Sha1 lines bytes
+  begins = record { valid = valid; spelled = take_all (28 * length lines) bytes (let long = records_length form.Sha1 1 lines valid in omega (arith, long)) }
 
   whole : IsPlanWhole (λ (name : FileName). bytes) plan
   whole = (of.written (λ (name : FileName). bytes) lines (records_count [] 1 count) begins).0
@@ -72,7 +73,7 @@ map_up map count gone plan of = λ j s found. by s (whole j s found) where
   by (Bytes offset long) is = tt
   by (Range range) is = (let is_ : range.offset + range.count ≤ length bytes = is in omega (arith, is_, size))
 
-pub map_within : (root : Root) (map : FileName) (count : ℕ) (gone : List ℕ) (plan : Plan) → map ≡ map_file_of root → root.map.length ≡ 28 * count → PlansMap map count gone plan → IsPlanWithin root plan
+pub map_within : (root : Root) (map : FileName) (count : ℕ) (gone : List ℕ) (plan : Plan) → map ≡ map_file_of root → root.map.length ≡ 28 * count → PlansMap form.Sha1 map count gone plan → IsPlanWithin root plan
 map_within root map count gone plan map_is long of = λ j s found.
     source_within root (map_file_of root) s root.map.length (subst (λ (f : FileName). IsSourceFrom f s) map_is (of.from j s found)) (sym (counts_all root kind.Map 0 refl))
     (subst (λ (n : ℕ). SourceEndsBy n s) (sym long) (map_up map count gone plan of j s found))

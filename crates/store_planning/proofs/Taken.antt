@@ -5,6 +5,7 @@ use Rattle.std.specs.List.{AllByRecursion}
 use Rattle.std.proofs.Common.{◌∙◌, sym, ap, subst, inl, inr, arith}
 use Rattle.std.proofs.lemmas.Bool.{cases_lt}
 use Rattle.std.proofs.lemmas.Option.{same_Some}
+use Rattle.arch_base.specs.declared.ids.Form.TheVariants as form
 use Rattle.arch_model.proofs.ValidArchives.{all_weaker}
 use Rattle.disk_model.specs.declared.name.FileKind.TheVariants as kind
 use Rattle.disk_model.specs.declared.name.FileName.{FileName}
@@ -239,7 +240,7 @@ module _ (root : Root) (old : Planning) (map : FileName) (count : ℕ) (new : Pl
   abbrev mid : Planning
   mid = finishes.0
 
-  of : PlansMap map count mid.gone finishes.2.0
+  of : PlansMap form.Sha1 map count mid.gone finishes.2.0
   of = finishes.2.1
 
   plans_are : new.plans ≡ mid.plans ++ finishes.2.0 ∷ []

@@ -3,7 +3,8 @@ use Rattle.std.specs.Prelude.{◌≡◌, ◌≤◌, ℕ, Bool, true, false, List
 use Rattle.std.specs.List.{AllByRecursion}
 use Rattle.std.specs.Str.{bytes_eq}
 use Rattle.std.proofs.Common.{◌∙◌, sym, ap, subst, inl, inr, arith}
-use Rattle.arch_base.specs.declared.ids.Id20.{Id20}
+use Rattle.arch_base.specs.declared.ids.ObjectId.{ObjectId}
+use Rattle.arch_base.specs.declared.ids.Form.TheVariants as form
 use Rattle.disk_model.specs.Disk.{Content, WhereTold}
 use Rattle.disk_model.specs.declared.name.FileName.{FileName}
 use Rattle.disk_model.specs.declared.refusal.WalkRefusal.{WalkRefusal}
@@ -26,16 +27,16 @@ use Rattle.store_planning.proofs.Planned.{each_plan, has_next, opened, seen_is, 
 use Rattle.store_finding.proofs.TextBytes.{one_of_all}
 
 -- An entry has the text exactly if it has the blob id.
-abbrev pub Picks : Id20 → List ℕ → Entry → Type 0
-Picks blob text e = bytes_eq blob.0 (blob_id_of e.text).0 ≡ bytes_eq text e.text
+abbrev pub Picks : ObjectId → List ℕ → Entry → Type 0
+Picks blob text e = bytes_eq blob.0 (blob_id_of form.Sha1 e.text).0 ≡ bytes_eq text e.text
 
 -- An entry was left out, or stays.
-pub take_left : (old : Planning) (file : FileName) (stored : StoredEntry) (blob : Id20) (content : Option Content) (mid new : Planning) (plan : Planned) → OpensPlan old file mid plan → bytes_eq blob.0 stored.seen.blob.0 ≡ true → LeavesOut mid plan stored new → PlansNext old file stored blob content new (Ok tt)
+pub take_left : (old : Planning) (file : FileName) (stored : StoredEntry) (blob : ObjectId) (content : Option Content) (mid new : Planning) (plan : Planned) → OpensPlan old file mid plan → bytes_eq blob.0 stored.seen.blob.0 ≡ true → LeavesOut mid plan stored new → PlansNext old file stored blob content new (Ok tt)
 take_left old file stored blob None mid new plan opens test left = tt
 take_left old file stored blob (Some k) mid new plan opens test left = λ v cache a es rest e text own is stored_is file_is picks up.
     let open_ = opened k v cache a own es rest e is text old up file file_is old.current up.current mid plan opens in
     let after = left.0 in
-    let blob_is : bytes_eq blob.0 stored.seen.blob.0 ≡ bytes_eq blob.0 (blob_id_of e.text).0 = ap (λ (s : StoredEntry). bytes_eq blob.0 s.seen.blob.0) stored_is in
+    let blob_is : bytes_eq blob.0 stored.seen.blob.0 ≡ bytes_eq blob.0 (blob_id_of form.Sha1 e.text).0 = ap (λ (s : StoredEntry). bytes_eq blob.0 s.seen.blob.0) stored_is in
     let this : bytes_eq text e.text ≡ true = sym (one_of_all (Picks blob text) es e rest (subst (AllByRecursion (Picks blob text)) is picks)) ∙ (sym blob_is ∙ test) in
     let next : HasNext (texts_in k) plan.file (in_files (in_epoch es e.epoch)) (in_file e) = subst (λ (f : FileName). HasNext (texts_in k) f (in_files (in_epoch es e.epoch)) (in_file e)) (sym open_.file) (has_next k v cache a own es rest e is text) in
     let planned_so = left.1 (texts_in k) (in_files (in_epoch es e.epoch)) (in_files (in_epoch (without_text es text) e.epoch)) (in_file e) open_.is next (ap (λ (s : StoredEntry). s.seen) stored_is ∙ seen_is es e) in
@@ -43,11 +44,11 @@ take_left old file stored blob (Some k) mid new plan opens test left = λ v cach
     let new_is : new ≡ with_entries mid mid.entries (gone_with e.kind mid.gone e.number) after = left.3 ∙ ap (λ (s : StoredEntry). with_entries mid mid.entries (gone_with s.seen.kind mid.gone s.number) after) stored_is in
     subst (IsPlannedUpTo (texts_in k) v.root a (es ++ e ∷ []) text) (sym new_is) so
 
-pub take_kept : (old : Planning) (file : FileName) (stored : StoredEntry) (blob : Id20) (content : Option Content) (mid new : Planning) (plan : Planned) → OpensPlan old file mid plan → bytes_eq blob.0 stored.seen.blob.0 ≡ false → PlansEntry mid plan stored content new → PlansNext old file stored blob content new (Ok tt)
+pub take_kept : (old : Planning) (file : FileName) (stored : StoredEntry) (blob : ObjectId) (content : Option Content) (mid new : Planning) (plan : Planned) → OpensPlan old file mid plan → bytes_eq blob.0 stored.seen.blob.0 ≡ false → PlansEntry mid plan stored content new → PlansNext old file stored blob content new (Ok tt)
 take_kept old file stored blob None mid new plan opens test keeps = tt
 take_kept old file stored blob (Some k) mid new plan opens test keeps = λ v cache a es rest e text own is stored_is file_is picks up.
     let open_ = opened k v cache a own es rest e is text old up file file_is old.current up.current mid plan opens in
-    let blob_is : bytes_eq blob.0 stored.seen.blob.0 ≡ bytes_eq blob.0 (blob_id_of e.text).0 = ap (λ (s : StoredEntry). bytes_eq blob.0 s.seen.blob.0) stored_is in
+    let blob_is : bytes_eq blob.0 stored.seen.blob.0 ≡ bytes_eq blob.0 (blob_id_of form.Sha1 e.text).0 = ap (λ (s : StoredEntry). bytes_eq blob.0 s.seen.blob.0) stored_is in
     let other : bytes_eq text e.text ≡ false = sym (one_of_all (Picks blob text) es e rest (subst (AllByRecursion (Picks blob text)) is picks)) ∙ (sym blob_is ∙ test) in
     let next : HasNext (texts_in k) plan.file (in_files (in_epoch es e.epoch)) (in_file e) = subst (λ (f : FileName). HasNext (texts_in k) f (in_files (in_epoch es e.epoch)) (in_file e)) (sym open_.file) (has_next k v cache a own es rest e is text) in
     let kept = keeps.kept (in_files (in_epoch es e.epoch)) (in_files (in_epoch (without_text es text) e.epoch)) (in_file e) open_.is next (ap (λ (s : StoredEntry). s.seen) stored_is ∙ seen_is es e) in
@@ -62,7 +63,7 @@ not_damaged texts root a es e text file new DiskFault none = tt
 not_damaged texts root a es e text file new NoMemory none = tt
 not_damaged texts root a es e text file new (Damaged at) none = none
 
-pub take_refused : (old : Planning) (file : FileName) (stored : StoredEntry) (blob : Id20) (content : Option Content) (mid new : Planning) (plan : Planned) (refusal : WalkRefusal) → OpensPlan old file mid plan → RefusesPlanned plan stored content refusal → PlansNext old file stored blob content new (Err (refusal_in file refusal))
+pub take_refused : (old : Planning) (file : FileName) (stored : StoredEntry) (blob : ObjectId) (content : Option Content) (mid new : Planning) (plan : Planned) (refusal : WalkRefusal) → OpensPlan old file mid plan → RefusesPlanned plan stored content refusal → PlansNext old file stored blob content new (Err (refusal_in file refusal))
 take_refused old file stored blob None mid new plan refusal opens refuses = tt
 take_refused old file stored blob (Some k) mid new plan refusal opens refuses = λ v cache a es rest e text own is stored_is file_is picks up.
     let open_ = opened k v cache a own es rest e is text old up file file_is old.current up.current mid plan opens in
@@ -105,7 +106,7 @@ pub opened_entries : (old : Planning) (file : FileName) (mid : Planning) (plan :
 opened_entries old file mid plan opens = opened_by old file old.current mid plan opens
 
 -- An entry that was moved was kept.
-pub moved_kept : (stored : StoredEntry) (seen : Seen) → (at : ℕ) × (commit : Id20) × IsMoved stored.seen at commit seen → KeptOf stored (kept_anew stored seen)
+pub moved_kept : (stored : StoredEntry) (seen : Seen) → (at : ℕ) × (commit : ObjectId) × IsMoved stored.seen at commit seen → KeptOf stored (kept_anew stored seen)
 moved_kept stored seen moved =
     let is = moved.2 in
     record { number = refl; epoch = refl; kind = is.kind; size = is.size; blob = is.blob; moment = is.moment; id = is.id; content = is.content }
@@ -118,12 +119,12 @@ drops_step : (t : Bool) (old new : List StoredEntry) (stored : StoredEntry) → 
 drops_step true old new stored is same = same
 drops_step false old new stored is same = absurd (let wrong : false ≡ true = is in cc)
 
-pub kept_but : (old : Planning) (file : FileName) (stored : StoredEntry) (blob : Id20) (content : Option Content) (mid new : Planning) (plan : Planned) → OpensPlan old file mid plan → bytes_eq blob.0 stored.seen.blob.0 ≡ false → PlansEntry mid plan stored content new → KeepsBut (bytes_eq blob.0 stored.seen.blob.0) old.entries stored new.entries
+pub kept_but : (old : Planning) (file : FileName) (stored : StoredEntry) (blob : ObjectId) (content : Option Content) (mid new : Planning) (plan : Planned) → OpensPlan old file mid plan → bytes_eq blob.0 stored.seen.blob.0 ≡ false → PlansEntry mid plan stored content new → KeepsBut (bytes_eq blob.0 stored.seen.blob.0) old.entries stored new.entries
 kept_but old file stored blob content mid new plan opens test keeps =
     keeps_step (bytes_eq blob.0 stored.seen.blob.0) old.entries new.entries stored (kept_anew stored keeps.seen) test (moved_kept stored keeps.seen keeps.moved)
     (ap (λ (p : Planning). p.entries) keeps.new_is ∙ ap (λ (l : List StoredEntry). l ++ kept_anew stored keeps.seen ∷ []) (opened_entries old file mid plan opens))
 
-pub left_but : (old : Planning) (file : FileName) (stored : StoredEntry) (blob : Id20) (mid new : Planning) (plan : Planned) → OpensPlan old file mid plan → bytes_eq blob.0 stored.seen.blob.0 ≡ true → LeavesOut mid plan stored new → KeepsBut (bytes_eq blob.0 stored.seen.blob.0) old.entries stored new.entries
+pub left_but : (old : Planning) (file : FileName) (stored : StoredEntry) (blob : ObjectId) (mid new : Planning) (plan : Planned) → OpensPlan old file mid plan → bytes_eq blob.0 stored.seen.blob.0 ≡ true → LeavesOut mid plan stored new → KeepsBut (bytes_eq blob.0 stored.seen.blob.0) old.entries stored new.entries
 left_but old file stored blob mid new plan opens test left =
     drops_step (bytes_eq blob.0 stored.seen.blob.0) old.entries new.entries stored test (ap (λ (p : Planning). p.entries) left.3 ∙ opened_entries old file mid plan opens)
 

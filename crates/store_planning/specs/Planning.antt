@@ -2,7 +2,8 @@
 use Rattle.std.specs.Prelude.{◌≡◌, ◌≢◌, ◌⊎◌, ◌+◌, ◌-◌, ◌<◌, ◌≤◌, ◌==◌, ℕ, Bool, true, false, ◌&&◌, ◌||◌, List, [], ◌∷◌, ◌++◌, length, take, get_or, slice_get, Option, Some, None, is_some, unwrap_or, Result, Ok, Err, if◌then◌else◌}
 use Rattle.std.specs.List.{AllByRecursion, AllZip, list_any}
 use Rattle.std.specs.Str.{bytes_eq}
-use Rattle.arch_base.specs.declared.ids.Id20.{Id20}
+use Rattle.arch_base.specs.declared.ids.ObjectId.{ObjectId}
+use Rattle.arch_base.specs.declared.ids.Form.TheVariants as form
 use Rattle.disk_model.specs.declared.name.FileKind.{FileKind}
 use Rattle.disk_model.specs.declared.name.FileKind.TheVariants as kind
 use Rattle.disk_model.specs.declared.name.FileName.{FileName}
@@ -84,7 +85,7 @@ loses entries blob epoch =
     list_any (λ (e : StoredEntry). bytes_eq blob e.seen.blob.0 && e.epoch == epoch) entries
 
 -- Just the epochs with an entry that has a blob id are planned.
-abbrev pub PlansLost : List StoredEntry → Id20 → List Plan → Type 0
+abbrev pub PlansLost : List StoredEntry → ObjectId → List Plan → Type 0
 PlansLost entries blob plans =
     (e : ℕ) → is_some (plan_of plans kind.Epoch e) ≡ loses entries blob.0 e
 
@@ -94,7 +95,7 @@ AreAnew plans = (i : ℕ) (plan : Plan) → slice_get plans i ≡ Some plan → 
 
 -- What is planned of the entries of a store without those with a blob id: what is kept of the others,
 -- and what is written.
-pub record PlansPurge (v : StoreState) (blob : Id20) (entries : List StoredEntry) (plans : List Plan)
+pub record PlansPurge (v : StoreState) (blob : ObjectId) (entries : List StoredEntry) (plans : List Plan)
     : Type 0 where
   pub kept : AllZip KeptOf (without_blob v.entries blob.0) entries
   pub ready : IsReadyPlan v.root plans v.root.next
@@ -104,9 +105,9 @@ pub record PlansPurge (v : StoreState) (blob : Id20) (entries : List StoredEntry
 
 -- On a store's own disk, where a message has the text of the blob id, what is planned, and what is
 -- kept of the other entries, is that of the archive without the text.
-abbrev pub PlansOwn : StoreState → Id20 → List StoredEntry → List Plan → Option Content → Type 0
+abbrev pub PlansOwn : StoreState → ObjectId → List StoredEntry → List Plan → Option Content → Type 0
 PlansOwn v blob entries plans content = (a : Archive) (cache text : List ℕ)
-    → IsStoreWith v cache a content → blob_id_of text ≡ blob → IsMessageText a text
+    → IsStoreWith v cache a content → blob_id_of form.Sha1 text ≡ blob → IsMessageText a text
     → PlansWithout v.root cache a text plans
     × (entries ≡ stored_after [] (without_text a.entries text))
 
@@ -259,9 +260,9 @@ pub record IsPlannedUpTo (texts : Texts) (root : Root) (a : Archive) (es : List 
   pub current : IsCurrent texts root es text p.current
 
 -- Of the entries of an archive those with a blob id are those with a text.
-abbrev pub PicksText : Archive → Id20 → List ℕ → Type 0
+abbrev pub PicksText : Archive → ObjectId → List ℕ → Type 0
 PicksText a blob text = AllByRecursion (λ (e : Entry).
-    bytes_eq blob.0 (blob_id_of e.text).0 ≡ bytes_eq text e.text) a.entries
+    bytes_eq blob.0 (blob_id_of form.Sha1 e.text).0 ≡ bytes_eq text e.text) a.entries
 
 -- After a call the entries of an archive up to this one are planned, where a text is left out. Nothing
 -- is damaged.
@@ -273,7 +274,7 @@ GivesNext texts root a es e text new (Err _) = Unit {0}
 
 -- A planner takes the next entry of the archive of a disk, whatever text the blob id picks to be left
 -- out.
-abbrev pub PlansNext : Planning → FileName → StoredEntry → Id20 → Option Content → Planning
+abbrev pub PlansNext : Planning → FileName → StoredEntry → ObjectId → Option Content → Planning
     → Result Unit StoreRefusal → Type 0
 PlansNext old file stored blob content new result = WhereTold (λ (k : Content).
     (v : StoreState) (cache : List ℕ) (a : Archive) (es rest : List Entry) (e : Entry) (text : List ℕ)
@@ -380,7 +381,7 @@ pub record PlansEntry (old : Planning) (plan : Planned) (e : StoredEntry)
   pub seen : Seen
   pub after : Planned
   pub kept : WhereTold (KeepsNext plan e.seen after (Ok seen)) content
-  pub moved : (at : ℕ) × (commit : Id20) × IsMoved e.seen at commit seen
+  pub moved : (at : ℕ) × (commit : ObjectId) × IsMoved e.seen at commit seen
   pub file : after.file ≡ plan.file
   pub going : is_some after.changed ≡ is_some plan.changed
   pub some : is_some after.parent ≡ true
@@ -409,10 +410,10 @@ ClosesLast old (Some c) mid = ClosesEpoch (without_current old) c mid
 -- added.
 abbrev pub FinishesPlans : Planning → FileName → ℕ → Planning → Type 0
 FinishesPlans old map count new = (mid : Planning) × ClosesLast old old.current mid
-    × ((plan : Plan) × PlansMap map count mid.gone plan × Pushes mid plan new)
+    × ((plan : Plan) × PlansMap form.Sha1 map count mid.gone plan × Pushes mid plan new)
 
 -- So many entries of a store are planned, whatever archive its disk holds.
-abbrev pub PlansFirst : StoreState → Id20 → ℕ → Planning → Content → Type 0
+abbrev pub PlansFirst : StoreState → ObjectId → ℕ → Planning → Content → Type 0
 PlansFirst v blob n p k = (cache : List ℕ) (a : Archive) (text : List ℕ) → IsDiskWith v cache a k
     → PicksText a blob text → IsPlannedUpTo (texts_in k) v.root a (take n a.entries) text p
 
@@ -457,7 +458,7 @@ pub record PlansEdit (v : StoreState) (old : Planning) (text : List ℕ) (moment
   pub kind_is : entry.seen.kind ≡ Message
   pub number : entry.number ≡ v.root.next
   pub id : own_id text ≡ Some entry.seen.id
-  pub blob : entry.seen.blob ≡ blob_id_of text
+  pub blob : entry.seen.blob ≡ blob_id_of form.Sha1 text
   pub content : entry.seen.content ≡ content_id_of text
   pub small : entry.epoch ≤ greatest_epoch
   pub piece : List ℕ

@@ -3,6 +3,7 @@
 ghost use Rattle.std.specs.Prelude.{◌≡◌, ◌+◌, ◌*◌, ◌≤◌, ◌++◌, [], ◌∷◌, Some, None, Err, IfErr, IfOk, OnOk};
 ghost use Rattle.std.specs.Str.{bytes_eq};
 ghost use Rattle.arch_base.specs.Counts.{RoseIf};
+ghost use Rattle.arch_base.specs.declared.ids.Form.TheVariants as form;
 ghost use Rattle.disk_model.specs.Sizes.{greatest_epoch, record_size};
 ghost use Rattle.root_slots.specs.declared.root.Root.{Root};
 ghost use Rattle.root_slots.specs.Valid.{IsRoot};
@@ -274,7 +275,7 @@ impl Planner {
         ensures finished { OnOk result (FinishesPlans self.old map count self.new) }
         // Whatever the disk holds.
         ensures ready { (root : Root) → IsRoot root → map ≡ map_file_of root
-            → root.map.length ≡ record_size * count → ArePlansIn root self.old
+            → root.map.length ≡ record_size form.Sha1 * count → ArePlansIn root self.old
             → IsTakenToOffset root self.old → OnOk result
             (AreFrom root self.new.plans × AreAnew self.new.plans
             × IsReadyPlan root self.new.plans (count + 1)

@@ -5,7 +5,7 @@ ghost use Rattle.epoch_file.specs.declared.entry.Seen.{Seen};
 ghost use Rattle.store_finding.specs.Joined.{JoinedEntries, JoinsOne, OfJoined};
 
 use crate::making_tests::{MAP, ROOT, epoch, make};
-use arch_base::Id20;
+use arch_base::ObjectId;
 use arch_model::OpenRefusal;
 use disk_model::{Disk, DiskFault, FileKind, MemDisk};
 use epoch_file::{NewEntry, StoreRefusal};
@@ -50,7 +50,7 @@ pub(crate) struct Case {
 /// Returns the record of a number.
 fn record(number: u32, Line(epoch, text): &Line) -> Record {
     let blob = if *epoch == NONE {
-        Id20([0; 20])
+        ObjectId([0; 20])
     } else {
         blob_id(text)
     };

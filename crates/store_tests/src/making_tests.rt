@@ -1,5 +1,6 @@
 //! Stores on disks in memory: what is made, what is answered, and what is read of them.
 ghost use Rattle.std.specs.Prelude.{◌≢◌, ◌≤◌, Some, IfOk, IsTrue, OnOk};
+ghost use Rattle.arch_base.specs.declared.ids.Form.TheVariants as form;
 ghost use Rattle.disk_model.specs.Disk.{WhereTold};
 ghost use Rattle.git_objects.specs.Objects.{blob_id_of};
 ghost use Rattle.mail_reader.specs.Ids.{own_id as own_id_in};
@@ -77,7 +78,7 @@ fn accepts(store: &Store, text: &[u8]) -> bool
 /// Returns whether a text has another own id and another blob id than an entry.
 fn is_apart(one: &StoredEntry, text: &[u8]) -> bool
     ensures id { IsTrue result → own_id_in text.now ≢ Some one.now.seen.id }
-    ensures blob { IsTrue result → blob_id_of text.now ≢ one.now.seen.blob }
+    ensures blob { IsTrue result → blob_id_of form.Sha1 text.now ≢ one.now.seen.blob }
 {
     let Some(id) = own_id(text) else {
         return false;

@@ -1,5 +1,6 @@
 //! Removals on disks in memory, and what an opening makes of deletions.
 ghost use Rattle.std.specs.Prelude.{◌≡◌, ◌≤◌, Some, IsTrue, OnOk};
+ghost use Rattle.arch_base.specs.declared.ids.Form.TheVariants as form;
 ghost use Rattle.disk_model.specs.Disk.{WhereTold};
 ghost use Rattle.git_objects.specs.Objects.{blob_id_of};
 ghost use Rattle.git_objects.specs.declared.entry_kind.EntryKind.TheVariants.{Message};
@@ -30,7 +31,7 @@ fn is_message(one: &StoredEntry, number: u32, text: &[u8]) -> bool
     ensures kind { IsTrue result → one.now.seen.kind ≡ Message }
     ensures number { IsTrue result → one.now.number ≡ number }
     ensures id { IsTrue result → own_id_in text.now ≡ Some one.now.seen.id }
-    ensures blob { IsTrue result → blob_id_of text.now ≡ one.now.seen.blob }
+    ensures blob { IsTrue result → blob_id_of form.Sha1 text.now ≡ one.now.seen.blob }
 {
     let EntryKind::Message = one.seen.kind else {
         return false;

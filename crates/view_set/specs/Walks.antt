@@ -1,6 +1,6 @@
 -- What a walk through entries makes of the rows of live messages.
 use Rattle.std.specs.Prelude.{◌≡◌, ◌≢◌, ◌+◌, ◌<◌, ℕ, List, [], ◌∷◌, Some, slice_get, Result, Ok, Err}
-use Rattle.arch_base.specs.declared.ids.Id20.{Id20}
+use Rattle.arch_base.specs.declared.ids.ObjectId.{ObjectId}
 use Rattle.git_objects.specs.declared.entry_kind.EntryKind.{EntryKind}
 use Rattle.git_objects.specs.declared.entry_kind.EntryKind.TheVariants.{Message, Deletion}
 use Rattle.arch_model.specs.Archives.{Entry}
@@ -30,7 +30,7 @@ StopsWithin count (Ok rows) = Unit {0}
 StopsWithin count (Err unread) = unread.index < count
 
 -- A damaged text is told by this blob id, and by another one of what was found.
-abbrev pub NamesBlob : Id20 → TextRefusal → Type 0
+abbrev pub NamesBlob : ObjectId → TextRefusal → Type 0
 NamesBlob blob refusal.DiskFault = Unit {0}
 NamesBlob blob (refusal.Damaged named found) = (named ≡ blob) × (found ≢ named)
 NamesBlob blob refusal.NoMemory = Unit {0}

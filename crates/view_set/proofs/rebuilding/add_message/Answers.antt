@@ -1,4 +1,5 @@
 use Rattle.std.proofs.Common.{◌≡◌, ◌∙◌, ℕ, List, Ok, refl, sym, ap, subst}
+use Rattle.arch_base.specs.declared.ids.Form.TheVariants as form
 use Rattle.git_objects.specs.Objects.{blob_id_of}
 use Rattle.arch_model.specs.Rows.{row_of}
 use Rattle.arch_model.specs.Walking.{GivesLine, GivesTextAt}
@@ -11,7 +12,7 @@ use Rattle.view_set.proofs.rebuilding.add_message.Goals as goal
 pub add_if_stored-requires : goal.add_if_stored-requires
 add_if_stored-requires g c =
     let given = subst (λ (l : List ℕ). GivesLine c.args.line.now l c.text.new.into (Ok tt)) c.new-text.ensures (c.in_default.ensures.line c.args.line.now c.requires.line) in
-    let blob : c.args.line.now.blob ≡ blob_id_of c.as_slice-bytes.result.now = sym given.1 ∙ ap blob_id_of (sym (c.as_slice-bytes.ensures ∙ given.2)) in
+    let blob : c.args.line.now.blob ≡ blob_id_of form.Sha1 c.as_slice-bytes.result.now = sym given.1 ∙ ap (blob_id_of form.Sha1) (sym (c.as_slice-bytes.ensures ∙ given.2)) in
     rw (blob, c.content_id.ensures) refl
 
 -- It is the entry's, where an archive is held.

@@ -1,7 +1,7 @@
 use Rattle.std.proofs.Common.{◌≡◌, ◌∙◌, arith, [], ap, subst, sym, true, false, refl, rules, tests, ℕ, List}
 use Rattle.arch_base.specs.Counts.{RoseIf}
 use Rattle.arch_base.specs.declared.config.Config.{Config}
-use Rattle.arch_base.specs.declared.ids.Id20.{Id20}
+use Rattle.arch_base.specs.declared.ids.ObjectId.{ObjectId}
 use Rattle.disk_model.specs.Moments.{LeavesOnly}
 use Rattle.root_slots.specs.Spelling.{spelling}
 use Rattle.arch_model.specs.Archives.{Archive, live, text_of}
@@ -80,7 +80,7 @@ returns-in-Ok-false-clause-taken g c =
           subst (λ (d : Done). DoneBy c.replace.new.self cache [] a d reply (g.D.Disk.content c.replace.new.disk)) (sym is.2) (edits.done a cache is.0 own room is.1);
       settled = edits.settled;
       goes_on = edits.goes_on;
-      files = done-then reply _ _ (λ kept. (may.entry, (may.is_there, may.kind, may.number_is), subst (λ (id : Id20). EditsFiles c.args.self.now c.replace.new.self id) (sym may.blob_is) kept)) c.replace.ensures.kept_files;
+      files = done-then reply _ _ (λ kept. (may.entry, (may.is_there, may.kind, may.number_is), subst (λ (id : ObjectId). EditsFiles c.args.self.now c.replace.new.self id) (sym may.blob_is) kept)) c.replace.ensures.kept_files;
       slot = edits.slot;
       same = edits.same;
       untouched = refused-then reply _ _ (looks-joined g.D.Disk g.met.D.Disk.only_now c.args.disk.now c.is_same.new.disk c.replace.new.disk c.is_same.ensures.looks) edits.untouched;

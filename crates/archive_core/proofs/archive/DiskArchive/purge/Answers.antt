@@ -1,6 +1,6 @@
 use Rattle.std.proofs.Common.{◌≡◌, ◌∙◌, ap, subst, sym, refl, ℕ, List}
 use Rattle.arch_base.specs.declared.config.Config.{Config}
-use Rattle.arch_base.specs.declared.ids.Id20.{Id20}
+use Rattle.arch_base.specs.declared.ids.ObjectId.{ObjectId}
 use Rattle.arch_model.specs.Archives.{Archive, messages, text_of}
 use Rattle.arch_model.specs.Delivery.{purged, purged_text}
 use Rattle.arch_model.specs.declared.answer.Answer.TheVariants as answer
@@ -30,7 +30,7 @@ pub returns-in-Ok-clause-taken : goal.returns-in-Ok-clause-taken
 returns-in-Ok-clause-taken g c =
     let may = may-read c.args.self.now c.stored.result.now c.args.number c.in-Some.index c.index-stored-index.result (c.stored.ensures ∙ ap (λ (u : StoreState). u.entries) c.self.view_is) c.in-Some.ensures.known (ap (λ (n : Config). n.mirror) (sym c.config.ensures) ∙ c.if-config.false) in
     let made = λ (a : Archive) (cache : List ℕ) (store : IsStoreWith c.args.self.now cache a (g.D.Disk.content c.args.disk.now)). (let keeps = store_keeps c.args.self.now cache a (g.D.Disk.content c.args.disk.now) store in purge-makes c.args.self.now a c.args.number _ keeps may (c.in-Some.ensures.message a keeps)) in
-    let files : FilesFor (Purge c.args.number) c.args.self.now c.drop_text.new.self = (may.entry, (may.is_there, may.kind, may.number_is), subst (λ (id : Id20). KeepsFiles c.args.self.now c.drop_text.new.self id) (sym may.blob_is) c.in-Ok.ensures.kept_files) in
+    let files : FilesFor (Purge c.args.number) c.args.self.now c.drop_text.new.self = (may.entry, (may.is_there, may.kind, may.number_is), subst (λ (id : ObjectId). KeepsFiles c.args.self.now c.drop_text.new.self id) (sym may.blob_is) c.in-Ok.ensures.kept_files) in
     done-taken g.D.Disk g.met.D.Disk.only_now c.law_of_stores.ensures.recovers (Purge c.args.number) (λ (a : Archive). purged a c.args.number) c.args.disk.now c.args.disk.now c.drop_text.new.disk c.args.self.now c.drop_text.new.self _
     (looks-same g.D.Disk g.met.D.Disk.only_now c.args.disk.now) refl (λ a cache store. (made a cache store).0) c.in-Ok.ensures.changes.count c.args.number _ c.in-Ok.ensures.changes (λ a cache store. (made a cache store).1) files tt refl
 

@@ -1,5 +1,6 @@
 use Rattle.std.proofs.Common.{◌≤◌, ◌∙◌, is_some, ap, sym, subst, refl, arith}
 use Rattle.std.proofs.lemmas.Result.{on_ok_weaker}
+use Rattle.arch_base.specs.declared.ids.Form.TheVariants as form
 use Rattle.git_objects.specs.declared.entry_kind.EntryKind.{EntryKind}
 use Rattle.git_objects.specs.declared.entry_kind.EntryKind.TheVariants.{Message}
 use Rattle.arch_model.specs.Archives.{Archive, Entry}
@@ -25,7 +26,7 @@ pub append_message-requires : goal.append_message-requires
 append_message-requires c =
     let again = again-message c.args.self.now (entry_of c.args.kept.now) c.unwrap-commit.result c.in_ok-end.end c.in-Message.is c.requires (end-again c.self.inside.config c.self.inside.kept.items c.self.inside.places.items c.self.inside.index c.self.inside.end c.args.self.now (entry_of c.args.kept.now) c.in_epoch-begin.result c.in_ok-end.end c.as_slice-text.result.now c.unwrap-commit.result c.self.view_is c.self.invariant.0 c.requires c.in_epoch-begin.ensures c.in_ok-end.ensures c.as_slice-text.ensures c.unwrap-commit.ensures) in
     let now = appends-same (numbered_to c.args.self.now c.args.kept.now.number) c.number_to_next.new.self (entry_of c.args.kept.now) (entry_of c.in_ok-entry.entry) c.unwrap-commit.result c.in_ok-entry.entry.commit c.in_ok-end.end (appended_as c.args.self.now (entry_of c.args.kept.now)) c.in_ok-number_to_next-in-Message.ensures.ok c.in_ok-entry.ensures.entry c.in_ok-entry.ensures.commit again.0 in
-    record { ids = c.text_ids-ids.ensures ∙ ap text_ids_of (c.as_slice-text.ensures ∙ sym (ap (λ (e : Entry). e.text) c.in_ok-entry.ensures.entry)); follows = now.follows; number = ap (λ (e : Entry). e.number) c.in_ok-entry.ensures.entry ∙ again.1 ∙ sym (ap (λ (a : Archive). a.next) c.in_ok-number_to_next-in-Message.ensures.ok); ends = now.ends }
+    record { ids = c.text_ids-ids.ensures ∙ ap (text_ids_of form.Sha1) (c.as_slice-text.ensures ∙ sym (ap (λ (e : Entry). e.text) c.in_ok-entry.ensures.entry)); follows = now.follows; number = ap (λ (e : Entry). e.number) c.in_ok-entry.ensures.entry ∙ again.1 ∙ sym (ap (λ (a : Archive). a.next) c.in_ok-number_to_next-in-Message.ensures.ok); ends = now.ends }
 
 pub returns-in_ok-number_to_next-in-Message : goal.returns-in_ok-number_to_next-in-Message
 returns-in_ok-number_to_next-in-Message c =

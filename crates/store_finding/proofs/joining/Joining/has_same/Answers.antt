@@ -1,7 +1,7 @@
 -- Both texts are read, and compared.
 use Rattle.std.proofs.Common.{◌≡◌, ◌∙◌, ℕ, List, Some, ap, subst, rules}
 use Rattle.std.specs.Str.{bytes_eq}
-use Rattle.arch_base.specs.declared.ids.Id20.{Id20}
+use Rattle.arch_base.specs.declared.ids.ObjectId.{ObjectId}
 use Rattle.arch_judge.specs.Indexes.{number_in}
 use Rattle.number_map.specs.declared.line.Record.{Record}
 use Rattle.store_finding.specs.Joined.{JoinedEntries, IsMessageOf, IsRecorded}
@@ -23,8 +23,8 @@ returns-clause-compared g c =
     let found : number_in c.self.inside.index.blobs seen.blob.0 ≡ Some c.in-Some.number = search rules in
     let so = c.self.invariant.3.indexes.blobs seen.blob.0 c.in-Some.number found in
     let line : IsRecorded v c.in-Some.number so.0 = subst (λ (w : JoinedEntries). IsRecorded w c.in-Some.number so.0) c.self.view_is so.1 in
-    let bytes : older.seen.blob.0 ≡ seen.blob.0 = ap (λ (b : Id20). b.0) (c.message-older.ensures.blob so.0 line) ∙ so.2 in
-    let blob : older.seen.blob ≡ seen.blob = ap (λ (l : List ℕ). let b : Id20 = record { 0 = l } in b) bytes in
+    let bytes : older.seen.blob.0 ≡ seen.blob.0 = ap (λ (b : ObjectId). b.0) (c.message-older.ensures.blob so.0 line) ∙ so.2 in
+    let blob : older.seen.blob ≡ seen.blob = ap (λ (l : List ℕ). let b : ObjectId = record { 0 = l } in b) bytes in
     let same : c.eq.result ≡ bytes_eq c.in_ok-old.old.items c.in_ok-new.new.items = search rules in
     both_read c.args.root.now v c.args.epoch seen of.index older c.in_ok-old.old.items c.in_ok-new.new.items c.eq.result
     (g.D.Disk.content c.args.disk.now) (g.D.Disk.content c.seen_text.new.disk) of.among blob

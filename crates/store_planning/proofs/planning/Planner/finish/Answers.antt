@@ -1,5 +1,6 @@
 -- The last epoch was closed, and the map is planned.
 use Rattle.std.proofs.Common.{◌≡◌, None, ℕ, List, sym, ap, subst, arith}
+use Rattle.arch_base.specs.declared.ids.Form.TheVariants as form
 use Rattle.number_map.specs.Rewriting.{PlansMap}
 use Rattle.disk_model.specs.declared.name.FileKind.{FileKind}
 use Rattle.disk_model.specs.declared.name.FileKind.TheVariants as kind
@@ -16,7 +17,7 @@ plan_without-requires c = record { gone = rises_higher 1 c.self.inside.top c.arg
 pub returns-clause-finished : goal.returns-clause-finished
 returns-clause-finished c =
     let mid = c.close_last.new.self in
-    let of = subst (λ (g : List ℕ). PlansMap c.args.map c.args.count g c.in_ok-plan.plan) (ap (λ (p : Planning). p.gone) c.self.view_is) c.in_ok-plan.ensures in
+    let of = subst (λ (g : List ℕ). PlansMap form.Sha1 c.args.map c.args.count g c.in_ok-plan.plan) (ap (λ (p : Planning). p.gone) c.self.view_is) c.in_ok-plan.ensures in
     (mid, c.in_ok-close_last.ensures, (c.in_ok-plan.plan, of, c.in_ok-push.ensures))
 
 pub returns-clause-ready : goal.returns-clause-ready
@@ -25,7 +26,7 @@ returns-clause-ready c = λ root valid map_is long are taken.
     let map = c.args.map in
     let count = c.args.count in
     let new = c.push.new.self in
-    let of = subst (λ (g : List ℕ). PlansMap map count g c.in_ok-plan.plan) (ap (λ (p : Planning). p.gone) c.self.view_is) c.in_ok-plan.ensures in
+    let of = subst (λ (g : List ℕ). PlansMap form.Sha1 map count g c.in_ok-plan.plan) (ap (λ (p : Planning). p.gone) c.self.view_is) c.in_ok-plan.ensures in
     let finishes : FinishesPlans old map count new = (c.close_last.new.self, c.in_ok-close_last.ensures, (c.in_ok-plan.plan, of, c.in_ok-push.ensures)) in
     let so = finish_ready root old map count new finishes (subst (λ (p : Planning). AreApart p.plans) c.self.view_is c.self.invariant.apart) map_is are in
     (so.0, so.1, so.2 (finished_within root old map count new finishes map_is long are taken), finished_named root old map count new finishes map_is long are taken)
