@@ -8,6 +8,7 @@ use Rattle.keep_course.specs.Courses.{ShelfRun}
 use Rattle.arch_model.specs.declared.shelf.Shelf.{Ghosts as Shelf}
 use Rattle.arch_model.specs.Archives.{Entry, Archive, live}
 use Rattle.arch_model.specs.Shelves.{ReadsUpTo, ReadsAhead, ReadsIn}
+use Rattle.arch_base.specs.Ids.{id_bytes}
 use Rattle.arch_base.specs.declared.sequence.NoMemory.{NoMemory}
 use Rattle.arch_model.specs.declared.text_refusal.TextRefusal.{TextRefusal}
 use Rattle.arch_model.specs.declared.text_refusal.TextRefusal.TheVariants as refusal
@@ -227,7 +228,7 @@ PageSaysUnread refusal.DiskFault moment sends out lost out' lost' sent =
 PageSaysUnread refusal.NoMemory moment sends out lost out' lost' sent =
     Says (word Unavailable moment sends true) out lost out' lost' sent
 PageSaysUnread (refusal.Damaged named found) moment sends out lost out' lost' sent =
-    Says (word_of ServerError (damaged_line named.0 found.0) moment sends true) out lost out' lost' sent
+    Says (word_of ServerError (damaged_line (id_bytes named) (id_bytes found)) moment sends true) out lost out' lost' sent
     ⊎ Says (word Unavailable moment sends true) out lost out' lost' sent
 
 -- A reply stopped for a refusal: its words were begun, or it was said why.

@@ -2,6 +2,7 @@
 //! Allocates.
 ghost use Rattle.std.specs.Prelude.{◌≡◌, ◌≤◌, ◌+◌, ◌++◌, ℕ, length, decimal, IfOk, OnOk, true};
 ghost use Rattle.arch_base.specs.Moments.{IsMoment};
+ghost use Rattle.arch_base.specs.Ids.{id_bytes};
 ghost use Rattle.edge_io.specs.Phrases.{SaysTo};
 ghost use Rattle.http_front.specs.Sessions.{PageSaysUnread};
 ghost use Rattle.http_heads.specs.Dates.{reply_date};
@@ -236,13 +237,13 @@ pub(crate) fn say_unread<O: Sink>(
 
 /// Returns the line of a damaged text: its id, and the id of the bytes found in its place.
 fn damaged_line(alloc: Global, named: &ObjectId, found: &ObjectId) -> Result<Bytes, NoMemory>
-    ensures { IfOk result (λ made. made ≡ damaged named.now.0 found.now.0) }
+    ensures { IfOk result (λ made. made ≡ damaged (id_bytes named.now) (id_bytes found.now)) }
 {
     let mut made = Bytes::new(alloc);
     made.push_slice(b"damaged ")?;
-    made.push_slice(&hex_of(named))?;
+    made.push_slice(hex_of(named).as_slice())?;
     made.push_slice(b" ")?;
-    made.push_slice(&hex_of(found))?;
+    made.push_slice(hex_of(found).as_slice())?;
     made.push_slice(b"\n")?;
     Ok(made)
 }
