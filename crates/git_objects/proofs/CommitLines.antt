@@ -5,7 +5,9 @@ use Rattle.std.specs.Fmt.{decimal}
 use Rattle.std.specs.Int.RustNames.{unsigned_abs}
 use Rattle.std.proofs.lemmas.List.{append_assoc, append_cancel_left}
 use Rattle.hex.specs.Hex.{encode_lower}
-use Rattle.arch_base.specs.declared.ids.Id20.{Id20}
+use Rattle.arch_base.specs.declared.ids.Form.{Form}
+use Rattle.arch_base.specs.declared.ids.ObjectId.{ObjectId}
+use Rattle.arch_base.specs.Ids.{id_bytes}
 use Rattle.git_objects.specs.declared.commits.Commit.{Commit}
 use Rattle.git_objects.specs.Fronts.{NoByte}
 use Rattle.git_objects.specs.Commits.{IsCommit, commit_content, hex_line, parent_line, number_part, text_part, zone_text, clock}
@@ -36,14 +38,14 @@ after_tree c = parent_line c.parent (codes "author " ++ person c (10 ∷ committ
 
 -- The line of the tree without its line feed.
 abbrev pub tree_text : Commit → List ℕ
-tree_text c = codes "tree " ++ encode_lower c.tree.0
+tree_text c = codes "tree " ++ encode_lower (id_bytes c.tree)
 
 -- The first line is that of the tree.
 pub tree_first : (c : Commit) (content : List ℕ) → content ≡ commit_content c → content ≡ tree_text c ++ 10 ∷ after_tree c
-tree_first c content is = is ∙ sym (append_assoc (codes "tree ") (encode_lower c.tree.0) (10 ∷ after_tree c))
+tree_first c content is = is ∙ sym (append_assoc (codes "tree ") (encode_lower (id_bytes c.tree)) (10 ∷ after_tree c))
 
 pub NoByte-tree : (c : Commit) → NoByte 10 (tree_text c)
-NoByte-tree c = NoByte-append 10 (codes "tree ") (encode_lower c.tree.0) (λ e. omega (arith, e), (λ e. omega (arith, e), (λ e. omega (arith, e), (λ e. omega (arith, e), (λ e. omega (arith, e), tt))))) (NoByte-hex c.tree)
+NoByte-tree c = NoByte-append 10 (codes "tree ") (encode_lower (id_bytes c.tree)) (λ e. omega (arith, e), (λ e. omega (arith, e), (λ e. omega (arith, e), (λ e. omega (arith, e), (λ e. omega (arith, e), tt))))) (NoByte-hex c.tree)
 
 -- No byte of a time zone is a line feed.
 NoByte-clock : (minutes : ℕ) → NoByte 10 (clock minutes [])
@@ -54,7 +56,7 @@ NoByte-zone (pos n) = (λ e. omega (arith, e), NoByte-clock (unsigned_abs (pos n
 NoByte-zone (negsuc n) = (λ e. omega (arith, e), NoByte-clock (unsigned_abs (negsuc n)))
 
 -- Nor is one of the author's line.
-NoByte-person : (c : Commit) → IsCommit c → NoByte 10 (person c [])
+NoByte-person : {form : Form} (c : Commit) → IsCommit form c → NoByte 10 (person c [])
 NoByte-person c valid =
     let zone = zone_text c.zone [] in
     let digits = decimal c.secs ++ 32 ∷ zone in
@@ -66,7 +68,7 @@ NoByte-person c valid =
 abbrev pub author_text : Commit → List ℕ
 author_text c = codes "author " ++ person c []
 
-pub NoByte-author : (c : Commit) → IsCommit c → NoByte 10 (author_text c)
+pub NoByte-author : {form : Form} (c : Commit) → IsCommit form c → NoByte 10 (author_text c)
 NoByte-author c valid = NoByte-append 10 (codes "author ") (person c []) (λ e. omega (arith, e), (λ e. omega (arith, e), (λ e. omega (arith, e), (λ e. omega (arith, e), (λ e. omega (arith, e), (λ e. omega (arith, e), (λ e. omega (arith, e), tt))))))) (NoByte-person c valid)
 
 -- The author's line before what follows it.
@@ -94,13 +96,13 @@ abbrev pub IsLeft : Option (Bor (List ℕ)) → List ℕ → Type 0
 IsLeft found rest = MatchOption found ⊥ (λ bytes. bytes.now ≡ rest)
 
 pub parent_there : (bytes id : List ℕ) (found : Option (Bor (List ℕ))) → bytes ≡ codes "parent " ++ id → ((line rest : List ℕ) → NoByte 10 line → id ≡ line ++ 10 ∷ rest → IsLeft found rest)
-    → (parent : Option Id20) (rest : List ℕ) → bytes ≡ parent_line parent (codes "author " ++ rest) → IsLeft found (codes "author " ++ rest)
+    → (parent : Option ObjectId) (rest : List ℕ) → bytes ≡ parent_line parent (codes "author " ++ rest) → IsLeft found (codes "author " ++ rest)
 parent_there bytes id found here after None rest is = absurd (words_apart bytes id rest here is)
 parent_there bytes id found here after (Some parent) rest is =
-    after (encode_lower parent.0) (codes "author " ++ rest) (NoByte-hex parent) (append_cancel_left (codes "parent ") id (hex_line parent (codes "author " ++ rest)) (sym here ∙ is))
+    after (encode_lower (id_bytes parent)) (codes "author " ++ rest) (NoByte-hex parent) (append_cancel_left (codes "parent ") id (hex_line parent (codes "author " ++ rest)) (sym here ∙ is))
 
 -- Where there is none, the author's line comes first.
-pub parent_missing : (bytes : List ℕ) → ((rest : List ℕ) → bytes ≢ codes "parent " ++ rest) → (parent : Option Id20) (rest : List ℕ) → bytes ≡ parent_line parent (codes "author " ++ rest)
+pub parent_missing : (bytes : List ℕ) → ((rest : List ℕ) → bytes ≢ codes "parent " ++ rest) → (parent : Option ObjectId) (rest : List ℕ) → bytes ≡ parent_line parent (codes "author " ++ rest)
     → bytes ≡ codes "author " ++ rest
 parent_missing bytes none None rest is = is
 parent_missing bytes none (Some parent) rest is = absurd (none (hex_line parent (codes "author " ++ rest)) is)

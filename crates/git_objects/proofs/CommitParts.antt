@@ -1,7 +1,8 @@
 -- The parts of a commit's content.
 use Rattle.std.proofs.Common.{◌≡◌, ◌≢◌, ℕ, List, [], Option, sym, ap, ◌∙◌}
 use Rattle.std.specs.Prelude.{ℤ}
-use Rattle.arch_base.specs.declared.ids.Id20.{Id20}
+use Rattle.arch_base.specs.declared.ids.Form.{Form}
+use Rattle.arch_base.specs.declared.ids.ObjectId.{ObjectId}
 use Rattle.arch_base.specs.Ids.{IsObjectId}
 use Rattle.git_objects.specs.declared.commits.Commit.{Commit}
 use Rattle.git_objects.specs.CleanText.{IsCleanText}
@@ -9,7 +10,7 @@ use Rattle.git_objects.specs.Fronts.{Lacks, Begins, Both, in_turn}
 use Rattle.git_objects.specs.Commits.{IsCommit, IsContentOf, HoldsNoCommit, IsParent, IsNumber, IsCommitZone, commit_content, tree_line, parent_part, name_part, email_part, number_part, zone_text, committed_part, text_part}
 
 -- The four parts: ids, author, time, and the end of the content.
-abbrev ids : Id20 × Option Id20 → List ℕ → List ℕ
+abbrev ids : ObjectId × Option ObjectId → List ℕ → List ℕ
 ids = in_turn tree_line parent_part
 
 abbrev person : List ℕ × List ℕ → List ℕ → List ℕ
@@ -32,7 +33,7 @@ abbrev after_ids : Commit → List ℕ
 after_ids c = person (c.author, c.email) (after_person c)
 
 -- Commits with equal fields are equal.
-commit-once : (c : Commit) (tree : Id20) (parent : Option Id20) (name email : List ℕ) (secs : ℕ) (zone : ℤ) (moment : ℕ) (subject : List ℕ)
+commit-once : (c : Commit) (tree : ObjectId) (parent : Option ObjectId) (name email : List ℕ) (secs : ℕ) (zone : ℤ) (moment : ℕ) (subject : List ℕ)
     → c.tree ≡ tree → c.parent ≡ parent → c.author ≡ name → c.email ≡ email → c.secs ≡ secs → c.zone ≡ zone → c.committed ≡ moment → c.subject ≡ subject
     → (let d : Commit = record { tree = tree; parent = parent; author = name; email = email; secs = secs; zone = zone; committed = moment; subject = subject } in c ≡ d)
 commit-once c tree parent name email secs zone moment subject a b d e f g h k = λ i. record {
@@ -47,12 +48,12 @@ commit-once c tree parent name email secs zone moment subject a b d e f g h k = 
 }
 
 -- Bytes that don't start with ids are no commit.
-pub no_ids : (bytes : List ℕ) → Lacks (Both IsObjectId IsParent) ids bytes → HoldsNoCommit bytes
-no_ids bytes none = λ c valid is. none (c.tree, c.parent) (after_ids c) (valid.tree, valid.parent) is
+pub no_ids : (form : Form) (bytes : List ℕ) → Lacks (Both (IsObjectId form) (IsParent form)) ids bytes → HoldsNoCommit form bytes
+no_ids form bytes none = λ c valid is. none (c.tree, c.parent) (after_ids c) (valid.tree, valid.parent) is
 
 -- The parts that are read, and the bytes after each.
-pub record ReadIds (bytes : List ℕ) (tree : Id20) (parent : Option Id20) (rest : List ℕ) : Type 0 where
-  pub begins : Begins (Both IsObjectId IsParent) ids bytes (tree, parent) rest
+pub record ReadIds (form : Form) (bytes : List ℕ) (tree : ObjectId) (parent : Option ObjectId) (rest : List ℕ) : Type 0 where
+  pub begins : Begins (Both (IsObjectId form) (IsParent form)) ids bytes (tree, parent) rest
 
 pub record ReadPerson (bytes name email rest : List ℕ) : Type 0 where
   pub begins : Begins (Both IsCleanText IsCleanText) person bytes (name, email) rest
@@ -64,59 +65,59 @@ pub record ReadEnd (bytes : List ℕ) (moment : ℕ) (subject rest : List ℕ) :
   pub begins : Begins (Both IsNumber IsCleanText) end_part bytes (moment, subject) rest
 
 -- A commit has the ids that are read.
-ids-are : {bytes rest : List ℕ} {tree : Id20} {parent : Option Id20} (one : ReadIds bytes tree parent rest) (c : Commit) → IsCommit c → bytes ≡ commit_content c
+ids-are : {form : Form} {bytes rest : List ℕ} {tree : ObjectId} {parent : Option ObjectId} (one : ReadIds form bytes tree parent rest) (c : Commit) → IsCommit form c → bytes ≡ commit_content c
     → (c.tree ≡ tree) × (c.parent ≡ parent) × (rest ≡ after_ids c)
 ids-are one c valid is =
     let same = one.begins.only (c.tree, c.parent) (after_ids c) (valid.tree, valid.parent) is in
-    (ap (λ (p : Id20 × Option Id20). p.0) (sym same.0), ap (λ (p : Id20 × Option Id20). p.1) (sym same.0), same.1)
+    (ap (λ (p : ObjectId × Option ObjectId). p.0) (sym same.0), ap (λ (p : ObjectId × Option ObjectId). p.1) (sym same.0), same.1)
 
 -- A commit has the author that is read.
-person-are : {bytes rest name email : List ℕ} (two : ReadPerson bytes name email rest) (c : Commit) → IsCommit c → bytes ≡ after_ids c
+person-are : {form : Form} {bytes rest name email : List ℕ} (two : ReadPerson bytes name email rest) (c : Commit) → IsCommit form c → bytes ≡ after_ids c
     → (c.author ≡ name) × (c.email ≡ email) × (rest ≡ after_person c)
 person-are two c valid is =
     let same = two.begins.only (c.author, c.email) (after_person c) (valid.author, valid.email) is in
     (ap (λ (p : List ℕ × List ℕ). p.0) (sym same.0), ap (λ (p : List ℕ × List ℕ). p.1) (sym same.0), same.1)
 
 -- A commit has the time that is read.
-time-are : {bytes rest : List ℕ} {secs : ℕ} {zone : ℤ} (three : ReadTime bytes secs zone rest) (c : Commit) → IsCommit c → bytes ≡ after_person c
+time-are : {form : Form} {bytes rest : List ℕ} {secs : ℕ} {zone : ℤ} (three : ReadTime bytes secs zone rest) (c : Commit) → IsCommit form c → bytes ≡ after_person c
     → (c.secs ≡ secs) × (c.zone ≡ zone) × (rest ≡ after_time c)
 time-are three c valid is =
     let same = three.begins.only (c.secs, c.zone) (after_time c) (valid.secs, valid.zone) is in
     (ap (λ (p : ℕ × ℤ). p.0) (sym same.0), ap (λ (p : ℕ × ℤ). p.1) (sym same.0), same.1)
 
 -- A commit has the end that is read.
-end-are : {bytes rest subject : List ℕ} {moment : ℕ} (four : ReadEnd bytes moment subject rest) (c : Commit) → IsCommit c → bytes ≡ after_time c
+end-are : {form : Form} {bytes rest subject : List ℕ} {moment : ℕ} (four : ReadEnd bytes moment subject rest) (c : Commit) → IsCommit form c → bytes ≡ after_time c
     → (c.committed ≡ moment) × (c.subject ≡ subject) × (rest ≡ [])
 end-are four c valid is =
     let same = four.begins.only (c.committed, c.subject) [] (valid.committed, valid.subject) is in
     (ap (λ (p : ℕ × List ℕ). p.0) (sym same.0), ap (λ (p : ℕ × List ℕ). p.1) (sym same.0), same.1)
 
 -- Bytes without an author are no commit.
-pub no_person : (bytes rest : List ℕ) (tree : Id20) (parent : Option Id20) → ReadIds bytes tree parent rest → Lacks (Both IsCleanText IsCleanText) person rest → HoldsNoCommit bytes
+pub no_person : {form : Form} (bytes rest : List ℕ) (tree : ObjectId) (parent : Option ObjectId) → ReadIds form bytes tree parent rest → Lacks (Both IsCleanText IsCleanText) person rest → HoldsNoCommit form bytes
 no_person bytes rest tree parent one none = λ c valid is. none (c.author, c.email) (after_person c) (valid.author, valid.email) (ids-are one c valid is).2
 
 -- Bytes without a time are no commit.
-pub no_time : (bytes rest later name email : List ℕ) (tree : Id20) (parent : Option Id20) → ReadIds bytes tree parent rest → ReadPerson rest name email later
-    → Lacks (Both IsNumber IsCommitZone) time later → HoldsNoCommit bytes
+pub no_time : {form : Form} (bytes rest later name email : List ℕ) (tree : ObjectId) (parent : Option ObjectId) → ReadIds form bytes tree parent rest → ReadPerson rest name email later
+    → Lacks (Both IsNumber IsCommitZone) time later → HoldsNoCommit form bytes
 no_time bytes rest later name email tree parent one two none = λ c valid is.
     none (c.secs, c.zone) (after_time c) (valid.secs, valid.zone) (person-are two c valid (ids-are one c valid is).2).2
 
 -- Bytes without an end are no commit.
-pub no_end : (bytes rest later last name email : List ℕ) (tree : Id20) (parent : Option Id20) (secs : ℕ) (zone : ℤ) → ReadIds bytes tree parent rest → ReadPerson rest name email later
-    → ReadTime later secs zone last → Lacks (Both IsNumber IsCleanText) end_part last → HoldsNoCommit bytes
+pub no_end : {form : Form} (bytes rest later last name email : List ℕ) (tree : ObjectId) (parent : Option ObjectId) (secs : ℕ) (zone : ℤ) → ReadIds form bytes tree parent rest → ReadPerson rest name email later
+    → ReadTime later secs zone last → Lacks (Both IsNumber IsCleanText) end_part last → HoldsNoCommit form bytes
 no_end bytes rest later last name email tree parent secs zone one two three none = λ c valid is.
     none (c.committed, c.subject) [] (valid.committed, valid.subject) (time-are three c valid (person-are two c valid (ids-are one c valid is).2).2).2
 
 -- Bytes that go on after the end are no commit.
-pub more_after : (bytes rest later last name email subject more : List ℕ) (tree : Id20) (parent : Option Id20) (secs : ℕ) (zone : ℤ) (moment : ℕ) → ReadIds bytes tree parent rest
-    → ReadPerson rest name email later → ReadTime later secs zone last → ReadEnd last moment subject more → more ≢ [] → HoldsNoCommit bytes
+pub more_after : {form : Form} (bytes rest later last name email subject more : List ℕ) (tree : ObjectId) (parent : Option ObjectId) (secs : ℕ) (zone : ℤ) (moment : ℕ) → ReadIds form bytes tree parent rest
+    → ReadPerson rest name email later → ReadTime later secs zone last → ReadEnd last moment subject more → more ≢ [] → HoldsNoCommit form bytes
 more_after bytes rest later last name email subject more tree parent secs zone moment one two three four some = λ c valid is.
     some (end-are four c valid (time-are three c valid (person-are two c valid (ids-are one c valid is).2).2).2).2
 
 -- Otherwise the commit is the one with these parts.
-pub parts-found : (bytes rest later last name email subject more : List ℕ) (tree : Id20) (parent : Option Id20) (secs : ℕ) (zone written : ℤ) (moment : ℕ) → ReadIds bytes tree parent rest
+pub parts-found : {form : Form} (bytes rest later last name email subject more : List ℕ) (tree : ObjectId) (parent : Option ObjectId) (secs : ℕ) (zone written : ℤ) (moment : ℕ) → ReadIds form bytes tree parent rest
     → ReadPerson rest name email later → ReadTime later secs zone last → ReadEnd last moment subject more → more ≡ [] → written ≡ zone
-    → IsContentOf bytes (record { tree = tree; parent = parent; author = name; email = email; secs = secs; zone = written; committed = moment; subject = subject })
+    → IsContentOf form bytes (record { tree = tree; parent = parent; author = name; email = email; secs = secs; zone = written; committed = moment; subject = subject })
 parts-found bytes rest later last name email subject more tree parent secs zone written moment one two three four none same_zone =
     let spelled_end : last ≡ end_part (moment, subject) [] = four.begins.spelled ∙ ap (end_part (moment, subject)) none in
     let spelled_time : later ≡ time (secs, written) (end_part (moment, subject) []) = rw same_zone (three.begins.spelled ∙ ap (time (secs, zone)) spelled_end) in

@@ -4,8 +4,9 @@ use Rattle.std.specs.Prelude.{◌≡◌, ◌≢◌, ◌+◌, ◌/◌, ◌%◌, �
 use Rattle.std.specs.Fmt.{decimal}
 use Rattle.std.specs.Int.RustNames.{unsigned_abs}
 use Rattle.hex.specs.Hex.{encode_lower}
-use Rattle.arch_base.specs.declared.ids.Id20.{Id20}
-use Rattle.arch_base.specs.Ids.{IsObjectId}
+use Rattle.arch_base.specs.declared.ids.Form.{Form}
+use Rattle.arch_base.specs.declared.ids.ObjectId.{ObjectId}
+use Rattle.arch_base.specs.Ids.{IsObjectId, id_bytes}
 use Rattle.git_objects.specs.declared.commits.Commit.{Commit}
 use Rattle.git_objects.specs.CleanText.{IsCleanText}
 use Rattle.git_objects.specs.Fronts.{followed}
@@ -32,21 +33,21 @@ zone_sign (negsuc less_one) = 45
 abbrev pub zone_text : ℤ → List ℕ → List ℕ
 zone_text zone rest = zone_sign zone ∷ clock (unsigned_abs zone) rest
 
--- The 40 digits of an id, and a line feed.
-abbrev pub hex_line : Id20 → List ℕ → List ℕ
-hex_line id rest = encode_lower id.0 ++ 10 ∷ rest
+-- The digits of an id, 40 or 64, and a line feed.
+abbrev pub hex_line : ObjectId → List ℕ → List ℕ
+hex_line id rest = encode_lower (id_bytes id) ++ 10 ∷ rest
 
 -- The line that names the tree.
-abbrev pub tree_line : Id20 → List ℕ → List ℕ
+abbrev pub tree_line : ObjectId → List ℕ → List ℕ
 tree_line id rest = codes "tree " ++ hex_line id rest
 
 -- The line that names the parent, if there is one.
-abbrev pub parent_line : Option Id20 → List ℕ → List ℕ
+abbrev pub parent_line : Option ObjectId → List ℕ → List ℕ
 parent_line None rest = rest
 parent_line (Some id) rest = codes "parent " ++ hex_line id rest
 
 -- The bytes from the parent's line up to the author's name.
-abbrev pub parent_part : Option Id20 → List ℕ → List ℕ
+abbrev pub parent_part : Option ObjectId → List ℕ → List ℕ
 parent_part = followed parent_line (codes "author ")
 
 -- Clean text, and the byte that ends it.
@@ -92,20 +93,20 @@ pub record IsCommitZone (zone : ℤ) : Type 0 where
   pub low : negsuc 1438 ≤ℤ zone
   pub high : zone ≤ℤ pos 1439
 
--- An id, if there is one.
-abbrev pub IsParent : Option Id20 → Type 0
-IsParent None = Unit {0}
-IsParent (Some id) = IsObjectId id
+-- An id of a form, if there is one.
+abbrev pub IsParent : Form → Option ObjectId → Type 0
+IsParent form None = Unit {0}
+IsParent form (Some id) = IsObjectId form id
 
 -- A number of 64 bits.
 abbrev pub IsNumber : ℕ → Type 0
 IsNumber n = n < 2 ^ 64
 
--- The commits that are spelled: author, address and subject are clean, the numbers have 64 bits,
--- and the zone is valid.
-pub record IsCommit (c : Commit) : Type 0 where
-  pub tree : IsObjectId c.tree
-  pub parent : IsParent c.parent
+-- The commits that are spelled in a form: the ids are of the form, author, address and subject are
+-- clean, the numbers have 64 bits, and the zone is valid.
+pub record IsCommit (form : Form) (c : Commit) : Type 0 where
+  pub tree : IsObjectId form c.tree
+  pub parent : IsParent form c.parent
   pub author : IsCleanText c.author
   pub email : IsCleanText c.email
   pub secs : IsNumber c.secs
@@ -113,12 +114,12 @@ pub record IsCommit (c : Commit) : Type 0 where
   pub committed : IsNumber c.committed
   pub subject : IsCleanText c.subject
 
--- The bytes are the content of this commit and of no other.
-pub record IsContentOf (bytes : List ℕ) (c : Commit) : Type 0 where
-  pub valid : IsCommit c
+-- The bytes are the content of this commit and of no other of the form.
+pub record IsContentOf (form : Form) (bytes : List ℕ) (c : Commit) : Type 0 where
+  pub valid : IsCommit form c
   pub spelled : bytes ≡ commit_content c
-  pub only : (other : Commit) → IsCommit other → bytes ≡ commit_content other → other ≡ c
+  pub only : (other : Commit) → IsCommit form other → bytes ≡ commit_content other → other ≡ c
 
--- The bytes are no commit's content.
-abbrev pub HoldsNoCommit : List ℕ → Type 0
-HoldsNoCommit bytes = (c : Commit) → IsCommit c → bytes ≢ commit_content c
+-- The bytes are the content of no commit of the form.
+abbrev pub HoldsNoCommit : Form → List ℕ → Type 0
+HoldsNoCommit form bytes = (c : Commit) → IsCommit form c → bytes ≢ commit_content c

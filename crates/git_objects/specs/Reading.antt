@@ -1,5 +1,6 @@
 -- The results of reading objects and commits.
 use Rattle.std.specs.Prelude.{◌≡◌, ◌≢◌, ◌-◌, ◌≤◌, ℕ, List, ◌++◌, length, slice_range, Option, Some, None, Result, Ok, Err, MatchOption}
+use Rattle.arch_base.specs.declared.ids.Form.{Form}
 use Rattle.arch_base.specs.declared.sequence.NoMemory.{NoMemory}
 use Rattle.git_objects.specs.declared.objects.Object.{Object}
 use Rattle.git_objects.specs.declared.objects.Object.TheVariants.{Blob, Tree, Commit}
@@ -14,9 +15,9 @@ shown (Blob content) = BlobOf content.now
 shown (Tree kind id) = TreeOf kind id
 shown (Commit content) = CommitOf content.now
 
--- The bytes start with the spelling of this object, which has this length.
-pub record IsObjectFront (bytes : List ℕ) (object : GitObject) (len : ℕ) : Type 0 where
-  pub valid : IsObject object
+-- The bytes start with the spelling of this object of the form, which has this length.
+pub record IsObjectFront (form : Form) (bytes : List ℕ) (object : GitObject) (len : ℕ) : Type 0 where
+  pub valid : IsObject form object
   pub inside : len ≤ length bytes
   pub spelled : slice_range bytes 0 len ≡ spelling object
 
@@ -28,9 +29,9 @@ LendsPiece bytes (Tree kind id) len = Unit {0}
 LendsPiece bytes (Commit content) len = (length content.now ≤ len)
     × (content.now ≡ slice_range bytes (len - length content.now) len)
 
--- The bytes start with no object's spelling.
-abbrev pub HasNoObject : List ℕ → Type 0
-HasNoObject bytes = (object : GitObject) (rest : List ℕ) → IsObject object
+-- The bytes start with the spelling of no object of the form.
+abbrev pub HasNoObject : Form → List ℕ → Type 0
+HasNoObject form bytes = (object : GitObject) (rest : List ℕ) → IsObject form object
     → bytes ≢ spelling object ++ rest
 
 -- The result is this object and the length of its spelling.
@@ -51,8 +52,8 @@ commit_of parts = record {
   subject = parts.subject.now;
 }
 
--- The commit that the bytes hold, or none if they hold none.
-abbrev pub ReadsCommit : List ℕ → Result (Option CommitRecord) NoMemory → Type 0
-ReadsCommit bytes (Err e) = Unit {0}
-ReadsCommit bytes (Ok None) = HoldsNoCommit bytes
-ReadsCommit bytes (Ok (Some c)) = IsContentOf bytes c
+-- The commit of the form that the bytes hold, or none if they hold none.
+abbrev pub ReadsCommit : Form → List ℕ → Result (Option CommitRecord) NoMemory → Type 0
+ReadsCommit form bytes (Err e) = Unit {0}
+ReadsCommit form bytes (Ok None) = HoldsNoCommit form bytes
+ReadsCommit form bytes (Ok (Some c)) = IsContentOf form bytes c

@@ -1,7 +1,8 @@
 //! Reads commits.
 //! Allocates.
-ghost use Rattle.std.specs.Prelude.{◌≡◌, ◌<◌, IfOk, ◌^◌, ◌++◌, ◌∷◌, ℕ, List, Option, codes, slice_index, Some, MatchOption, false};
-ghost use Rattle.arch_base.specs.declared.ids.Id20.{Id20};
+ghost use Rattle.std.specs.Prelude.{◌≡◌, IfOk, ◌++◌, ◌∷◌, ℕ, List, Option, codes, Some, MatchOption, false};
+ghost use Rattle.arch_base.specs.declared.ids.Form.{Form as IdForm};
+ghost use Rattle.arch_base.specs.declared.ids.ObjectId.{ObjectId as Id};
 ghost use Rattle.arch_base.specs.Ids.{IsObjectId};
 ghost use Rattle.git_objects.specs.declared.commits.Commit.{Commit as CommitRecord};
 ghost use Rattle.git_objects.specs.CleanText.{IsCleanText, is_clean_byte};
@@ -12,18 +13,18 @@ ghost use Rattle.git_objects.specs.Reading.{ReadsCommit, commit_of};
 use crate::clean_text::is_clean;
 use crate::commits::Commit;
 use crate::fronts::{after, before, parted_at, read_number};
-use arch_base::{Bytes, NoMemory, ObjectId, id_of_hex};
+use arch_base::{Bytes, Form, NoMemory, ObjectId, id_of_hex};
 use std::alloc::Global;
 
-/// Returns the commit that a commit's content spells, or `None` for any other content.
+/// Returns the commit of a form that a commit's content spells, or `None` for any other content.
 ///
 /// A commit that was spelled is read back.
-pub fn read_commit(alloc: Global, content: &[u8]) -> Result<Option<Commit>, NoMemory>
-    ensures exact { ReadsCommit content.now result }
-    ensures again { (c : CommitRecord) → IsCommit c → content.now ≡ commit_content c
+pub fn read_commit(alloc: Global, content: &[u8], form: Form) -> Result<Option<Commit>, NoMemory>
+    ensures exact { ReadsCommit form content.now result }
+    ensures again { (c : CommitRecord) → IsCommit form c → content.now ≡ commit_content c
         → IfOk result (λ found. found ≡ Some c) }
 {
-    let Some(parts) = read_parts(content) else {
+    let Some(parts) = read_parts(content, form) else {
         return Ok(None);
     };
     Ok(Some(Commit {
@@ -38,12 +39,12 @@ pub fn read_commit(alloc: Global, content: &[u8]) -> Result<Option<Commit>, NoMe
     }))
 }
 
-/// Returns when a commit was made, by its content, in seconds since 1970.
+/// Returns when a commit of any form was made, by its content, in seconds since 1970.
 ///
 /// Skips the lines of tree, parent and author. So the result may be anything for bytes that are no
 /// commit's content.
 pub fn committed_at(content: &[u8]) -> Option<u64>
-    ensures { (c : CommitRecord) → IsCommit c → content.now ≡ commit_content c
+    ensures { (of : IdForm) (c : CommitRecord) → IsCommit of c → content.now ≡ commit_content c
         → result ≡ Some c.committed }
 {
     let unread = after_line(content)?;
@@ -65,7 +66,7 @@ fn after_line(bytes: &[u8]) -> Option<&[u8]>
 
 /// Returns the bytes after the line of the parent, if they start with one.
 fn after_parent(bytes: &[u8]) -> Option<&[u8]>
-    ensures { (parent : Option Id20) (rest : List ℕ)
+    ensures { (parent : Option Id) (rest : List ℕ)
         → bytes.now ≡ parent_line parent (codes "author " ++ rest)
         → MatchOption result ⊥ (λ found. found.now ≡ codes "author " ++ rest) }
 {
@@ -95,12 +96,12 @@ struct Parts<'a> {
     subject: &'a [u8],
 }
 
-/// Reads the parts of a commit's content.
-fn read_parts(content: &[u8]) -> Option<Parts<'_>>
-    ensures { MatchOption result (HoldsNoCommit content.now) (λ parts.
-        IsContentOf content.now (commit_of parts)) }
+/// Reads the parts of the content of a commit of a form.
+fn read_parts(content: &[u8], form: Form) -> Option<Parts<'_>>
+    ensures { MatchOption result (HoldsNoCommit form content.now) (λ parts.
+        IsContentOf form content.now (commit_of parts)) }
 {
-    let (tree, parent, rest) = read_ids(content)?;
+    let (tree, parent, rest) = read_ids(content, form)?;
     let (author, email, rest) = read_person(rest)?;
     let (secs, zone, rest) = read_time(rest)?;
     let (committed, subject, rest) = read_end(rest)?;
@@ -120,44 +121,38 @@ fn read_parts(content: &[u8]) -> Option<Parts<'_>>
 }
 
 /// Reads the ids of tree and parent, up to the author's name.
-fn read_ids(bytes: &[u8]) -> Option<(ObjectId, Option<ObjectId>, &[u8])>
+fn read_ids(bytes: &[u8], form: Form) -> Option<(ObjectId, Option<ObjectId>, &[u8])>
     ensures { MatchOption result
-        (Lacks (Both IsObjectId IsParent) (in_turn tree_line parent_part) bytes.now)
-        (λ found. Begins (Both IsObjectId IsParent) (in_turn tree_line parent_part) bytes.now
+        (Lacks (Both (IsObjectId form) (IsParent form)) (in_turn tree_line parent_part) bytes.now)
+        (λ found. Begins (Both (IsObjectId form) (IsParent form)) (in_turn tree_line parent_part) bytes.now
         (found.0, found.1) found.2.now) }
 {
-    let (tree, rest) = read_id(b"tree ", bytes)?;
-    let (parent, rest) = read_parent(rest)?;
+    let (tree, rest) = read_id(b"tree ", bytes, form)?;
+    let (parent, rest) = read_parent(rest, form)?;
     Some((tree, parent, rest))
 }
 
 /// Reads the parent, up to the author's name.
-fn read_parent(bytes: &[u8]) -> Option<(Option<ObjectId>, &[u8])>
-    ensures { MatchOption result (Lacks IsParent parent_part bytes.now)
-        (λ found. Begins IsParent parent_part bytes.now found.0 found.1.now) }
+fn read_parent(bytes: &[u8], form: Form) -> Option<(Option<ObjectId>, &[u8])>
+    ensures { MatchOption result (Lacks (IsParent form) parent_part bytes.now)
+        (λ found. Begins (IsParent form) parent_part bytes.now found.0 found.1.now) }
 {
     if let Some(rest) = after(b"author ", bytes) {
         return Some((None, rest));
     }
-    let (id, rest) = read_id(b"parent ", bytes)?;
+    let (id, rest) = read_id(b"parent ", bytes, form)?;
     Some((Some(id), after(b"author ", rest)?))
 }
 
-/// Reads the id on the line that starts with a word.
-fn read_id<'a>(word: &[u8], bytes: &'a [u8]) -> Option<(ObjectId, &'a [u8])>
-    ensures { MatchOption result (Lacks IsObjectId (led word.now hex_line) bytes.now)
-        (λ found. Begins IsObjectId (led word.now hex_line) bytes.now found.0 found.1.now) }
+/// Reads the id of a form on the line that starts with a word.
+fn read_id<'a>(word: &[u8], bytes: &'a [u8], form: Form) -> Option<(ObjectId, &'a [u8])>
+    ensures { MatchOption result (Lacks (IsObjectId form) (led word.now hex_line) bytes.now)
+        (λ found. Begins (IsObjectId form) (led word.now hex_line) bytes.now found.0 found.1.now) }
 {
     let (digits, rest) = parted_at(b'\n', after(word, bytes)?)?;
-    let id = id_of_hex(digits)?;
-    are_bytes(&id.0);
+    let id = id_of_hex(digits, form)?;
     Some((id, rest))
 }
-
-/// Brings into the proof around the call that bytes are below 256. Does nothing.
-fn are_bytes(bytes: &[u8])
-    ensures { (k : ℕ) → slice_index bytes.now k < 2 ^ 8 }
-{}
 
 /// Reads the author's name and address, up to the seconds.
 fn read_person(bytes: &[u8]) -> Option<(&[u8], &[u8], &[u8])>

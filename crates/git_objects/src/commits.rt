@@ -78,7 +78,7 @@ fn push_id(into: &mut Bytes, word: &[u8], id: &ObjectId) -> Result<(), NoMemory>
     ensures { OnOk result (AppendsPiece into.old into.new (λ rest. word.now ++ hex_line id.now rest)) }
 {
     into.push_slice(word)?;
-    into.push_slice(&hex_of(id))?;
+    into.push_slice(hex_of(id).as_slice())?;
     into.push(b'\n')
 }
 

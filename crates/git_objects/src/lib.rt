@@ -11,8 +11,10 @@ mod entry_kind;
 mod fronts;
 mod kinds;
 mod objects;
+mod trees;
 
 pub use commit_reading::{committed_at, read_commit};
 pub use commits::{Commit, commit_bytes};
 pub use entry_kind::EntryKind;
-pub use objects::{Object, blob_id, object_id, read_object, spellings_stand_apart, tree_bytes};
+pub use objects::{Object, blob_id, object_id, read_object, spellings_stand_apart};
+pub use trees::{TreeBytes, tree_bytes};

@@ -6,7 +6,7 @@ use Rattle.git_objects.proofs.CommitParts.{no_ids, no_person, no_time, no_end, m
 use Rattle.git_objects.proofs.commit_reading.read_parts.Goals as goal
 
 pub returns-in_err-tree : goal.returns-in_err-tree
-returns-in_err-tree c = rw c.from_residual.ensures (no_ids c.args.content.now c.in_err-tree.ensures)
+returns-in_err-tree c = rw c.from_residual.ensures (no_ids c.args.form c.args.content.now c.in_err-tree.ensures)
 
 pub returns-in_err-author : goal.returns-in_err-author
 returns-in_err-author c = rw c.from_residual-in_err-author.ensures
