@@ -13,10 +13,13 @@ ghost use Rattle.git_objects.specs.Commits.{IsCommitZone};
 mod samples;
 
 use anyhow::anyhow;
-use arch_base::{Bytes, NoMemory, ObjectId, decimal};
+use arch_base::{Bytes, Form, NoMemory, ObjectId, decimal};
 use git_objects::{Commit, EntryKind, blob_id, commit_bytes, object_id, tree_bytes};
 use samples::{ALONE, BLOBS, CHAIN, Sample};
 use std::alloc::Global;
+
+/// The form of the ids.
+const FORM: Form = Form::Sha1;
 
 /// Prints blobs, trees of one file, commits without a parent, and a chain of commits.
 fn main(rt: HostRuntime) -> anyhow::Result<()> {
@@ -26,13 +29,13 @@ fn main(rt: HostRuntime) -> anyhow::Result<()> {
         &rt,
         alloc,
         "tree",
-        &tree_bytes(EntryKind::Message, &blob_id(b"hello\n")),
+        tree_bytes(EntryKind::Message, &blob_id(b"hello\n", FORM)).as_slice(),
     )?;
     let dropped = print_named(
         &rt,
         alloc,
         "tree",
-        &tree_bytes(EntryKind::Deletion, &blob_id(b"")),
+        tree_bytes(EntryKind::Deletion, &blob_id(b"", FORM)).as_slice(),
     )?;
     print_alone(&rt, alloc, &dropped)?;
     print_chain(&rt, alloc, &kept)
@@ -75,7 +78,13 @@ fn every_byte(alloc: Global) -> Result<Bytes, NoMemory> {
 /// Prints the blob of a content.
 fn print_blob(rt: &impl Print, alloc: Global, content: &[u8]) -> anyhow::Result<()> {
     let spelling = blob_spelling(alloc, content)?;
-    print_object(rt, alloc, "blob", &blob_id(content), spelling.as_slice())
+    print_object(
+        rt,
+        alloc,
+        "blob",
+        &blob_id(content, FORM),
+        spelling.as_slice(),
+    )
 }
 
 /// Returns the spelling of the blob of a content.
@@ -182,7 +191,7 @@ fn print_named(
     kind: &str,
     spelling: &[u8],
 ) -> anyhow::Result<ObjectId> {
-    let id = object_id(spelling);
+    let id = object_id(spelling, FORM);
     print_object(rt, alloc, kind, &id, spelling)?;
     Ok(id)
 }
@@ -195,7 +204,7 @@ fn print_object(
     id: &ObjectId,
     spelling: &[u8],
 ) -> anyhow::Result<()> {
-    let id = hex::encode(alloc, id.0.as_slice())?;
+    let id = hex::encode(alloc, id.as_slice())?;
     let size = spelling.len();
     let spelling = hex::encode(alloc, spelling)?;
     println!(rt; "{kind} {id} {size} {spelling}")?;
