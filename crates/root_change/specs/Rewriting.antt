@@ -1,6 +1,7 @@
 -- Parts of an archive that a command writes anew or appends to, from bytes and ranges of the old files.
 use Rattle.std.specs.Prelude.{◌≡◌, ◌⊎◌, ◌+◌, ◌-◌, ◌*◌, ◌<◌, ◌≤◌, ◌^◌, ◌==◌, ◌&&◌, nat_lt, ℕ, Bool, true, false, List, [], ◌∷◌, ◌++◌, length, get_or, slice_get, Option, Some, None, Result, Err, IfOk, OnOk, if◌then◌else◌}
 use Rattle.std.specs.List.{flat_map, sum_by}
+use Rattle.arch_base.specs.declared.ids.Form.TheVariants as form
 use Rattle.arch_base.specs.Counts.{RoseIf}
 use Rattle.disk_model.specs.declared.disk.Disk.{Ghosts as Disk}
 use Rattle.disk_model.specs.declared.name.FileKind.{FileKind}
@@ -235,8 +236,8 @@ pub record MayCarryAll (root : Root) (plans : List Plan) : Type 0 where
 -- The map has a record for each number below the next one, after its plan.
 abbrev pub MapFits : Root → List Plan → ℕ → Type 0
 MapFits old plans number =
-    (map_planned (old.sequence + 1) (plan_of plans kind.Map 0) old.map).length + record_size
-    ≡ record_size * number
+    (map_planned (old.sequence + 1) (plan_of plans kind.Map 0) old.map).length
+    + record_size form.Sha1 ≡ record_size form.Sha1 * number
 
 -- A range wasn't whole.
 abbrev pub IsShort : {T : Type 0} → Result T RewriteRefusal → Type 0

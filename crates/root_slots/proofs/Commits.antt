@@ -1,5 +1,5 @@
 -- A commit on a disk: what a crash leaves during each write, and what holds after all three.
-use Rattle.std.specs.Prelude.{◌≡◌, ◌⊎◌, ℕ, ◌-◌, ◌<◌, ◌^◌, Option, Some, None, List, [], ◌∷◌, length, refl}
+use Rattle.std.specs.Prelude.{◌≡◌, ◌⊎◌, ℕ, ◌<◌, ◌^◌, Option, Some, None, List, [], ◌∷◌, length, refl}
 use Rattle.std.proofs.Common.{◌∙◌, ap, sym, subst, inl, inr, arith}
 use Rattle.disk_model.specs.Disk.{File, Files, Content, BothTold, WhereTold, ReadsFit, bytes_of, overlay}
 use Rattle.disk_model.specs.Synced.{WritingLeaves, IsWritten}
@@ -10,8 +10,8 @@ use Rattle.root_slots.specs.Between.{BetweenStays, crash_between}
 use Rattle.root_slots.specs.Each.{IfThere, EachRoot, settled_file}
 use Rattle.root_slots.specs.Spelling.{spelling}
 use Rattle.root_slots.specs.Sizes.{sequence-spelling}
-use Rattle.root_slots.specs.Slots.{HasRootSize, body_offset, sequence_of, HasRoot, Current, Ready, IsOldOrNew, OthersStayInImage, HasNewRoot, IsCommitted, with_root, shut_in, AreBoth, IsInCommit}
-use Rattle.root_slots.proofs.Phases.{shut_between, old_or_new, new_current, other_ready, between_commit}
+use Rattle.root_slots.specs.Slots.{HasRootSize, body_offset, sequence_of, HasRoot, Ready, IsOldOrNew, OthersStayInImage, HasNewRoot, IsCommitted, with_root, shut_in, AreBoth, IsInCommit}
+use Rattle.root_slots.proofs.Phases.{shut_between, old_or_new, between_commit}
 use Rattle.root_slots.proofs.Torn.{Comes, comes_writing, comes_written, size_stays}
 
 -- The sequence that a root is spelled with is that of the root.

@@ -4,7 +4,7 @@ use Rattle.std.proofs.Common.{◌∙◌, sym, ap, subst, inl, inr, arith, take_a
 use Rattle.std.proofs.lemmas.Bool.{cases_eq, cases_lt}
 use Rattle.std.proofs.lemmas.Grind.{common_steps}
 use Rattle.disk_model.specs.Disk.{overlay}
-use Rattle.disk_model.specs.Laws.{SameOutside, in_or_out, overlay-torn, overlay-size, overlay-inside, overlay_kept, overlay_length}
+use Rattle.disk_model.specs.Laws.{SameOutside, in_or_out, overlay-torn, overlay-size, overlay-inside, overlay_kept}
 use Rattle.root_slots.specs.Between.{crash_between, between_torn, between_overlay}
 use Rattle.root_slots.specs.Each.{part_stays}
 use Rattle.root_slots.specs.Slots.{gate, body_offset, body_at, sequence_of, Precedes, Current, HasRoot, Ready, with_root, shut_in, IsInCommit}

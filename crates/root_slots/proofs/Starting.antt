@@ -1,5 +1,5 @@
 -- A root file without an open slot, created in three steps.
-use Rattle.std.specs.Prelude.{◌≡◌, ◌<◌, ℕ, ◌+◌, Option, Some, None, List, [], ◌∷◌, ◌++◌, length, get_or, drop, replicate, refl}
+use Rattle.std.specs.Prelude.{◌≡◌, ◌<◌, ℕ, ◌+◌, Option, Some, None, List, [], ◌∷◌, ◌++◌, length, get_or, drop, replicate}
 use Rattle.std.proofs.Common.{◌∙◌, ap, subst, inl, inr, arith}
 use Rattle.std.proofs.lemmas.List.{append-nil, drop_all, replicate-append-replicate}
 use Rattle.disk_model.specs.Disk.{File, Files, Kept, Content, Survival, Image, BothTold, WhereTold, OneFile, MaySurvive, Within, exact, bytes_of, overlay, write_sure, remove_sure, IsAtMostLength, ReadsFit}
@@ -8,7 +8,7 @@ use Rattle.disk_model.specs.Synced.{WritingLeaves, IsWritten}
 use Rattle.disk_model.specs.Tells.{told_then}
 use Rattle.root_slots.specs.RootName.{root_name}
 use Rattle.root_slots.specs.Each.{elsewhere_before}
-use Rattle.root_slots.specs.Slots.{IsShutFile, EachShut, LeavesShut, OthersStayInImage, IsBegun, IsCleared, RootBecomes, StillShut}
+use Rattle.root_slots.specs.Slots.{IsShutFile, EachShut, LeavesShut, OthersStayInImage, IsBegun, RootBecomes, StillShut}
 
 -- What may be left while the file is removed.
 still_shut : (s : Survival) (file : File) → ((f : File) → MaySurvive s f → IsShutFile f) → MaySurvive (remove_sure s) file → IsShutFile file
