@@ -3,13 +3,13 @@
 ghost use Rattle.std.specs.Prelude.{◌≡◌, ◌≢◌, ◌<◌, ◌^◌, length, take, IfSome, IfNone};
 ghost use Rattle.arch_base.specs.Ids.{IsObjectId};
 ghost use Rattle.disk_model.specs.BigEndian.{be32};
-ghost use Rattle.disk_model.specs.Sizes.{record_size};
+ghost use Rattle.disk_model.specs.Sizes.{record_size as size_of_record};
 ghost use Rattle.number_map.specs.declared.line.Record.{Record};
 ghost use Rattle.number_map.specs.Records.{record_bytes, IsRecord};
 
 use crate::line::{Record, is_valid};
-use arch_base::{Id20, ObjectId};
-use disk_model::RECORD_SIZE;
+use arch_base::{Form, ObjectId};
+use disk_model::record_size;
 
 /// Reads a number of 32 bits, the highest byte first.
 fn number32(bytes: &[u8]) -> u32
@@ -21,22 +21,11 @@ fn number32(bytes: &[u8]) -> u32
     u32::from_be_bytes(digits)
 }
 
-/// Reads the id of a blob.
-fn blob_id(bytes: &[u8]) -> ObjectId
-    requires { length bytes.now ≡ 20 }
-    ensures bytes { result.0 ≡ bytes.now }
-    ensures valid { IsObjectId result }
-{
-    let mut digits = [0; 20];
-    digits.copy_from_slice(bytes);
-    Id20(digits)
-}
-
 /// Reads the record with these bytes, valid or not.
-fn any_record(bytes: &[u8]) -> Record
-    requires { length bytes.now ≡ record_size }
+fn any_record(bytes: &[u8], form: Form) -> Record
+    requires { length bytes.now ≡ size_of_record form }
     ensures bytes { record_bytes result ≡ bytes.now }
-    ensures blob { IsObjectId result.blob }
+    ensures blob { IsObjectId form result.blob }
     ensures number { result.number < 2 ^ 32 }
     ensures epoch { result.epoch < 2 ^ 32 }
 {
@@ -45,25 +34,25 @@ fn any_record(bytes: &[u8]) -> Record
     Record {
         number: number32(number),
         epoch: number32(epoch),
-        blob: blob_id(blob),
+        blob: ObjectId::from_slice(blob, form),
     }
 }
 
 /// Returns the valid record of a number at the front of bytes, if there is one.
-pub fn record_in_front(bytes: &[u8], number: u32) -> Option<Record>
-    ensures some { IfSome result (λ line. IsRecord number line
-        × (take record_size bytes.now ≡ record_bytes line)) }
-    ensures none { IfNone result ((line : Record) → IsRecord number line
-        → take record_size bytes.now ≢ record_bytes line) }
+pub fn record_in_front(bytes: &[u8], number: u32, form: Form) -> Option<Record>
+    ensures some { IfSome result (λ line. IsRecord form number line
+        × (take (size_of_record form) bytes.now ≡ record_bytes line)) }
+    ensures none { IfNone result ((line : Record) → IsRecord form number line
+        → take (size_of_record form) bytes.now ≢ record_bytes line) }
 {
-    if bytes.len() < RECORD_SIZE {
+    if bytes.len() < record_size(form) {
         return None;
     }
-    let line = any_record(bytes.split_at(RECORD_SIZE).0);
+    let line = any_record(bytes.split_at(record_size(form)).0, form);
     if line.number != number {
         return None;
     }
-    if !is_valid(&line) {
+    if !is_valid(&line, form) {
         return None;
     }
     Some(line)

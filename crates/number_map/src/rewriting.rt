@@ -9,22 +9,22 @@ ghost use Rattle.root_change.specs.Rewriting.{IsPlan, PushesBytes};
 ghost use Rattle.number_map.specs.Records.{record_bytes};
 ghost use Rattle.number_map.specs.Rewriting.{PlansMap, PushesGone, RewritesMap, RisesUpTo, none_record};
 
-use crate::line::{NO_BLOB, NO_EPOCH, Record};
+use crate::line::{NO_EPOCH, Record, no_blob};
 use crate::whole::walk;
 use crate::writing::spell;
-use arch_base::{Id20, MessageNumbers, NoMemory};
-use disk_model::{Disk, FileKind, FileName, RECORD_SIZE, WalkRefusal};
+use arch_base::{Form, MessageNumbers, NoMemory};
+use disk_model::{Disk, FileKind, FileName, WalkRefusal, records_size};
 use root_change::{PartPlan, Target, put_sources};
 use std::alloc::Global;
 
 /// Returns the record of a number without a message.
-fn without_message(number: u32) -> Record
-    ensures { result ≡ none_record number }
+fn without_message(number: u32, form: Form) -> Record
+    ensures { result ≡ none_record form number }
 {
     Record {
         number,
         epoch: NO_EPOCH,
-        blob: Id20(NO_BLOB),
+        blob: no_blob(form),
     }
 }
 
@@ -34,19 +34,24 @@ pub fn push_record(plan: &mut PartPlan, line: &Record) -> Result<(), NoMemory>
     ensures valid { OnOk result (IsPlan plan.new) }
     ensures err { OnErr result (plan.new ≡ plan.old) }
 {
-    plan.push_bytes(&spell(line))
+    plan.push_bytes(spell(line).as_slice())
 }
 
 /// Appends the records after the first `done` ones, up to that of a number, to a plan, and then that
 /// of the number without its message.
-fn push_gone(plan: &mut PartPlan, file: FileName, done: u32, number: u32) -> Result<(), NoMemory>
+fn push_gone(
+    plan: &mut PartPlan,
+    file: FileName,
+    done: u32,
+    number: u32,
+    form: Form,
+) -> Result<(), NoMemory>
     requires { done < number }
-    ensures { OnOk result (PushesGone file done number plan.old plan.new) }
+    ensures { OnOk result (PushesGone form file done number plan.old plan.new) }
 {
     let kept = number - done - 1;
-    let offset = RECORD_SIZE as u64 * u64::from(done);
-    plan.push_range(file, offset, RECORD_SIZE as u64 * u64::from(kept))?;
-    push_record(plan, &without_message(number))
+    plan.push_range(file, records_size(done, form), records_size(kept, form))?;
+    push_record(plan, &without_message(number, form))
 }
 
 /// Plans the first `count` records of a map, where some numbers, which rise, have no message.
@@ -58,19 +63,23 @@ pub fn plan_without(
     file: FileName,
     count: u32,
     gone: &MessageNumbers,
+    form: Form,
 ) -> Result<PartPlan, NoMemory>
     requires gone { RisesUpTo 1 count gone.now }
-    ensures { IfOk result (PlansMap file count gone.now) }
+    ensures { IfOk result (PlansMap form file count gone.now) }
 {
     let mut plan = PartPlan::new(alloc, FileKind::Map, 0, Target::Anew);
     let mut done = 0;
     for number in gone.as_slice() {
         let number = *number;
-        push_gone(&mut plan, file, done, number)?;
+        push_gone(&mut plan, file, done, number, form)?;
         done = number;
     }
-    let offset = RECORD_SIZE as u64 * u64::from(done);
-    plan.push_range(file, offset, RECORD_SIZE as u64 * u64::from(count - done))?;
+    plan.push_range(
+        file,
+        records_size(done, form),
+        records_size(count - done, form),
+    )?;
     Ok(plan)
 }
 
@@ -90,23 +99,24 @@ pub fn rewrite<D: Disk>(
     count: u32,
     to: FileName,
     gone: &MessageNumbers,
+    form: Form,
 ) -> Result<(), WalkRefusal>
     requires apart { from ≢ to }
     requires gone { RisesUpTo 1 count gone.now }
-    ensures rewritten { BothTold (λ k m. RewritesMap from count to gone.now k m result) (D.content disk.old)
-        (D.content disk.new) }
+    ensures rewritten { BothTold (λ k m. RewritesMap form from count to gone.now k m result)
+        (D.content disk.old) (D.content disk.new) }
     ensures others { BothTold (OtherFilesStay to) (D.content disk.old) (D.content disk.new) }
     ensures crash_beside { (bounds : Bounds) → RespectsBound (bounds to) 0
         → RunsBeside D.Disk bounds disk.old disk.new }
     ensures cause { RoseIf (result ≡ Err WalkRefusal.DiskFault) (D.faults disk.old) (D.faults disk.new) }
 {
-    walk(alloc, disk, from, count)?;
-    let plan = plan_without(alloc, from, count, gone)?;
+    walk(alloc, disk, from, count, form)?;
+    let plan = plan_without(alloc, from, count, gone, form)?;
     let whole = put_sources(disk, plan.bytes(), plan.sources(), to, 0)?;
     if !whole {
         // The file got shorter after its records were read.
         return Err(WalkRefusal::Damaged {
-            at: RECORD_SIZE as u64 * u64::from(count),
+            at: records_size(count, form),
         });
     }
     Ok(())

@@ -4,25 +4,25 @@ ghost use Rattle.std.specs.Prelude.{◌≡◌, ◌+◌, ◌*◌, ◌<◌, ◌^�
 ghost use Rattle.arch_base.specs.Counts.{RoseIf};
 ghost use Rattle.disk_model.specs.Disk.{Image, BothTold, WhereTold, Unchanged, bytes_of};
 ghost use Rattle.disk_model.specs.Moments.{LeavesOnly};
-ghost use Rattle.disk_model.specs.Sizes.{record_size};
+ghost use Rattle.disk_model.specs.Sizes.{record_size as size_of_record};
 ghost use Rattle.number_map.specs.Records.{AreRecordsFrom};
 ghost use Rattle.number_map.specs.Walks.{BeginsWithRecords, WalksMap};
 ghost use Rattle.number_map.specs.Pieces.{ReadsRecords};
 
 use crate::line::Records;
 use crate::pieces::read_piece;
-use arch_base::NoMemory;
-use disk_model::{Disk, DiskFault, FileName, RECORD_SIZE, WalkRefusal};
+use arch_base::{Form, NoMemory};
+use disk_model::{Disk, DiskFault, FileName, WalkRefusal, record_size, records_size};
 use std::alloc::Global;
 
 /// The number of records that are read at once.
 const PIECE: u32 = 2340;
 
-/// Allocates room for a piece: 65,520 bytes, for 2,340 records.
-fn room(alloc: Global) -> Result<Vec<u8>, NoMemory>
-    ensures { IfOk result (λ made. length made.items ≡ record_size * 2340) }
+/// Allocates room for a piece: 65,520 or 93,600 bytes, for 2,340 records.
+fn room(alloc: Global, form: Form) -> Result<Vec<u8>, NoMemory>
+    ensures { IfOk result (λ made. length made.items ≡ size_of_record form * 2340) }
 {
-    Ok(vec![in alloc; 0u8; 65_520]?)
+    Ok(vec![in alloc; 0u8; records_size(PIECE, form) as usize]?)
 }
 
 /// Reads `wanted` more records, as one piece of a map.
@@ -32,21 +32,23 @@ fn read_more<D: Disk>(
     wanted: u32,
     room: &mut [u8],
     lines: &mut Records,
+    form: Form,
 ) -> Result<(), WalkRefusal>
-    requires room { length room.old ≡ record_size * wanted }
+    requires room { length room.old ≡ size_of_record form * wanted }
     requires count { length lines.old + wanted < 2 ^ 32 }
-    ensures read { WhereTold (λ k. BeginsWithRecords lines.old (bytes_of (k file).seen) → ReadsRecords result
-        (length lines.old + wanted) (bytes_of (k file).seen) lines.new) (D.content disk.old) }
+    ensures read { WhereTold (λ k. BeginsWithRecords form lines.old (bytes_of (k file).seen)
+        → ReadsRecords form result (length lines.old + wanted) (bytes_of (k file).seen) lines.new)
+        (D.content disk.old) }
     ensures size { OnOk result (length lines.new ≡ length lines.old + wanted) }
-    ensures valid { AreRecordsFrom 1 lines.old → OnOk result (AreRecordsFrom 1 lines.new) }
+    ensures valid { AreRecordsFrom form 1 lines.old → OnOk result (AreRecordsFrom form 1 lines.new) }
     ensures same { BothTold Unchanged (D.content disk.old) (D.content disk.new) }
     ensures crash { LeavesOnly D.Disk disk.old disk.new (Image (D.content disk.old)) }
     ensures cause { RoseIf (result ≡ Err WalkRefusal.DiskFault) (D.faults disk.old) (D.faults disk.new) }
 {
-    let offset = RECORD_SIZE as u64 * lines.as_slice().len() as u64;
+    let offset = records_size(lines.as_slice().len() as u32, form);
     match disk.read(file, offset, room) {
         Err(DiskFault) => Err(WalkRefusal::DiskFault),
-        Ok(n) => read_piece(&room[..n], wanted, lines),
+        Ok(n) => read_piece(&room[..n], wanted, lines, form),
     }
 }
 
@@ -57,12 +59,13 @@ fn read_all<D: Disk>(
     count: u32,
     room: &mut [u8],
     lines: &mut Records,
+    form: Form,
 ) -> Result<(), WalkRefusal>
-    requires room { length room.old ≡ record_size * 2340 }
+    requires room { length room.old ≡ size_of_record form * 2340 }
     requires none { lines.old ≡ [] }
     ensures read { WhereTold (λ k.
-        ReadsRecords result count (bytes_of (k file).seen) lines.new) (D.content disk.old) }
-    ensures valid { OnOk result (AreRecordsFrom 1 lines.new) }
+        ReadsRecords form result count (bytes_of (k file).seen) lines.new) (D.content disk.old) }
+    ensures valid { OnOk result (AreRecordsFrom form 1 lines.new) }
     ensures same { BothTold Unchanged (D.content disk.old) (D.content disk.new) }
     ensures crash { LeavesOnly D.Disk disk.old disk.new (Image (D.content disk.old)) }
     ensures cause { RoseIf (result ≡ Err WalkRefusal.DiskFault) (D.faults disk.old) (D.faults disk.new) }
@@ -70,8 +73,8 @@ fn read_all<D: Disk>(
     let mut done = 0;
     while done < count {
         let wanted = PIECE.min(count - done);
-        let into = &mut room[..RECORD_SIZE * wanted as usize];
-        if let Err(refusal) = read_more(disk, file, wanted, into, lines) {
+        let into = &mut room[..records_size(wanted, form) as usize];
+        if let Err(refusal) = read_more(disk, file, wanted, into, lines, form) {
             return Err(refusal);
         }
         done += wanted;
@@ -88,18 +91,19 @@ pub fn walk<D: Disk>(
     disk: &mut D,
     file: FileName,
     count: u32,
+    form: Form,
 ) -> Result<Records, WalkRefusal>
     ensures walked { WhereTold (λ k.
-        WalksMap count (bytes_of (k file).seen) result) (D.content disk.old) }
+        WalksMap form count (bytes_of (k file).seen) result) (D.content disk.old) }
     // Also where the disk doesn't tell its content.
-    ensures valid { IfOk result (AreRecordsFrom 1) }
+    ensures valid { IfOk result (AreRecordsFrom form 1) }
     ensures same { BothTold Unchanged (D.content disk.old) (D.content disk.new) }
     ensures crash { LeavesOnly D.Disk disk.old disk.new (Image (D.content disk.old)) }
     ensures cause { RoseIf (result ≡ Err WalkRefusal.DiskFault) (D.faults disk.old) (D.faults disk.new) }
 {
-    let mut room = room(alloc)?;
+    let mut room = room(alloc, form)?;
     let mut lines = Records::new(alloc);
-    match read_all(disk, file, count, &mut room, &mut lines) {
+    match read_all(disk, file, count, &mut room, &mut lines, form) {
         Ok(()) => Ok(lines),
         Err(refusal) => Err(refusal),
     }

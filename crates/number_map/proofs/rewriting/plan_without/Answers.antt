@@ -1,5 +1,5 @@
 -- One more number is planned without its message.
-use Rattle.std.proofs.Common.{◌≡◌, ◌∙◌, ◌+◌, ◌*◌, ◌<◌, ◌≤◌, ◌^◌, ℕ, List, [], ◌∷◌, length, drop, get_or, ap, arith, subst, sym}
+use Rattle.std.proofs.Common.{◌≡◌, ◌∙◌, ◌+◌, ◌<◌, ◌≤◌, ◌^◌, ℕ, List, [], ◌∷◌, length, drop, get_or, ap, arith, subst, sym}
 use Rattle.std.proofs.lemmas.List.{drop_all, drop_more}
 use Rattle.number_map.specs.Rewriting.{PlansMap, RisesUpTo}
 use Rattle.number_map.proofs.Planned.{AreLeft, gone_planned, last_planned, left_next}
@@ -24,7 +24,7 @@ loop-number-preserved c =
     record {
       bound = high;
       left = left_next gone (drop i gone) (drop (i + 1) gone) done count number at before.left;
-      planned = gone_planned c.args.file done number count gone (drop i gone) (drop (i + 1) gone) c.loop-number.plan c.push_gone.new.plan fits low at before.left c.in_ok-push_gone.ensures before.planned;
+      planned = gone_planned c.args.form c.args.file done number count gone (drop i gone) (drop (i + 1) gone) c.loop-number.plan c.push_gone.new.plan fits low at before.left c.in_ok-push_gone.ensures before.planned;
     }
 
 pub returns : goal.returns
@@ -37,5 +37,5 @@ returns c =
     let most : length items ≤ i = c.loop-number-test.false in
     let none : drop i gone ≡ [] = ap (λ (l : List ℕ). drop i l) (sym is) ∙ drop_all i items most in
     let left = subst (AreLeft gone c.loop-number.done c.args.count) none before.left in
-    subst (PlansMap c.args.file c.args.count gone) (sym c.in_ok-push_range.ensures.ok) (last_planned c.args.file c.loop-number.done c.args.count (28 * c.from.result) (28 * c.from-2.result) gone c.loop-number.plan c.ranges.count.fits before.bound
-    (ap (λ (n : ℕ). 28 * n) c.from.ensures) (ap (λ (n : ℕ). 28 * n) c.from-2.ensures) left before.planned)
+    subst (PlansMap c.args.form c.args.file c.args.count gone) (sym c.in_ok-push_range.ensures.ok) (last_planned c.args.form c.args.file c.loop-number.done c.args.count c.records_size.result c.records_size-2.result gone c.loop-number.plan c.ranges.count.fits before.bound
+    c.records_size.ensures.size c.records_size-2.ensures.size left before.planned)

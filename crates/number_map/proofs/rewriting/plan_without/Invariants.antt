@@ -8,5 +8,5 @@ abbrev pub invariant-loop-number : goal.invariant-loop-number
 invariant-loop-number l = record {
   bound : l.done ≤ l.count;
   left : AreLeft l.gone l.done l.count (drop l.number-index l.gone);
-  planned : PlansMap l.file l.done l.gone l.plan;
+  planned : PlansMap l.form l.file l.done l.gone l.plan;
 }

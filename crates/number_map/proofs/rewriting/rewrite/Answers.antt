@@ -36,13 +36,13 @@ returns-clause-rewritten g c =
     let o = content c.put_sources.new.disk in
     let put = subst (λ (bytes : List ℕ). BothTold (PutSources bytes plan.sources c.args.to 0) m o) c.bytes.ensures
     (subst (λ (sources : List Source). BothTold (PutSources c.bytes.result.now sources c.args.to 0) m o) c.sources.ensures (c.in_ok-whole.ensures.put c.if-not-whole.false)) in
-    rewritten c.args.from c.args.count c.args.to c.args.gone.now plan c.in_ok-walk.field-0 k m o c.in_ok-walk.ensures.walked c.in_ok-plan.ensures c.walk.ensures.same put
+    rewritten c.args.form c.args.from c.args.count c.args.to c.args.gone.now plan c.in_ok-walk.field-0 k m o c.in_ok-walk.ensures.walked c.in_ok-plan.ensures c.walk.ensures.same put
 
 pub returns-in_err-walk-clause-rewritten : goal.returns-in_err-walk-clause-rewritten
 returns-in_err-walk-clause-rewritten g c =
     let content = g.D.Disk.content in
     let p = err_from_is_err_and c.from_residual.result c.from_residual.ensures.1 in
-    rw (p.1, p.2) (walk_refused c.args.from c.args.count c.args.to c.args.gone.now c.in_err-walk.field-0.0 (content c.args.disk.now) (content c.walk.new.disk) c.in_err-walk.ensures.walked c.walk.ensures.same)
+    rw (p.1, p.2) (walk_refused c.args.form c.args.from c.args.count c.args.to c.args.gone.now c.in_err-walk.field-0.0 (content c.args.disk.now) (content c.walk.new.disk) c.in_err-walk.ensures.walked c.walk.ensures.same)
 
 pub returns-then-not-whole-clause-rewritten : goal.returns-then-not-whole-clause-rewritten
 returns-then-not-whole-clause-rewritten g c =
@@ -51,4 +51,4 @@ returns-then-not-whole-clause-rewritten g c =
     let m = content c.walk.new.disk in
     let all = subst (λ (bytes : List ℕ). HasSources bytes m plan.sources → c.in_ok-whole.whole ≡ true) c.bytes.ensures
     (subst (λ (sources : List Source). HasSources c.bytes.result.now m sources → c.in_ok-whole.whole ≡ true) c.sources.ensures c.in_ok-whole.ensures.whole) in
-    never_short c.args.from c.args.count c.args.to c.args.gone.now _ plan c.in_ok-walk.field-0 c.in_ok-whole.whole (content c.args.disk.now) m (content c.put_sources.new.disk) c.in_ok-walk.ensures.walked c.in_ok-plan.ensures c.walk.ensures.same c.put_sources.ensures.others all c.if-not-whole.true
+    never_short c.args.form c.args.from c.args.count c.args.to c.args.gone.now _ plan c.in_ok-walk.field-0 c.in_ok-whole.whole (content c.args.disk.now) m (content c.put_sources.new.disk) c.in_ok-walk.ensures.walked c.in_ok-plan.ensures c.walk.ensures.same c.put_sources.ensures.others all c.if-not-whole.true

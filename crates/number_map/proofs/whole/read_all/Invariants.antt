@@ -9,8 +9,8 @@ abbrev pub invariant-loop-done : goal.invariant-loop-done
 invariant-loop-done g l = record {
   size : length l.lines ≡ l.done;
   bound : l.done ≤ l.count;
-  valid : AreRecordsFrom 1 l.lines;
-  begins : WhereTold (λ k. BeginsWithRecords l.lines (bytes_of (k l.file).seen)) (g.D.Disk.content l.disk);
+  valid : AreRecordsFrom l.form 1 l.lines;
+  begins : WhereTold (λ k. BeginsWithRecords l.form l.lines (bytes_of (k l.file).seen)) (g.D.Disk.content l.disk);
   same : BothTold Unchanged (g.D.Disk.content l.fn.disk) (g.D.Disk.content l.disk);
   moments : LeavesOnly g.D.Disk l.fn.disk l.disk (Image (g.D.Disk.content l.fn.disk));
   kept : g.D.Disk.faults l.disk ≡ g.D.Disk.faults l.fn.disk;
