@@ -1,8 +1,9 @@
 //! Prints sample objects as `git_objects` writes and names them, for git itself to judge:
 //! `tests/git` puts each into a repository.
 //!
-//! Each object is a line `TYPE ID SIZE SPELLING`, with the size of the spelling in bytes and its
-//! bytes in hex. The last commits that are printed form a chain.
+//! The same objects are printed for each form of ids, after a line with git's name of the form. Each
+//! object is a line `TYPE ID SIZE SPELLING`, with the size of the spelling in bytes and its bytes in
+//! hex. The last commits of a form are a chain.
 #![tactic(auto)]
 
 ghost use Rattle.std.specs.Prelude.{◌≡◌, IsTrue};
@@ -18,35 +19,30 @@ use git_objects::{Commit, EntryKind, blob_id, commit_bytes, object_id, tree_byte
 use samples::{ALONE, BLOBS, CHAIN, Sample};
 use std::alloc::Global;
 
-/// The form of the ids.
-const FORM: Form = Form::Sha1;
-
-/// Prints blobs, trees of one file, commits without a parent, and a chain of commits.
+/// Prints the objects in each form of ids.
 fn main(rt: HostRuntime) -> anyhow::Result<()> {
     let alloc = rt.alloc();
-    print_blobs(&rt, alloc)?;
-    let kept = print_named(
-        &rt,
-        alloc,
-        "tree",
-        tree_bytes(EntryKind::Message, &blob_id(b"hello\n", FORM)).as_slice(),
-    )?;
-    let dropped = print_named(
-        &rt,
-        alloc,
-        "tree",
-        tree_bytes(EntryKind::Deletion, &blob_id(b"", FORM)).as_slice(),
-    )?;
-    print_alone(&rt, alloc, &dropped)?;
-    print_chain(&rt, alloc, &kept)
+    println!(&rt; "sha1")?;
+    print_objects(&rt, alloc, Form::Sha1)?;
+    println!(&rt; "sha256")?;
+    print_objects(&rt, alloc, Form::Sha256)
+}
+
+/// Prints blobs, trees of one file, commits without a parent, and a chain of commits.
+fn print_objects(rt: &impl Print, alloc: Global, form: Form) -> anyhow::Result<()> {
+    print_blobs(rt, alloc, form)?;
+    let kept = print_tree(rt, alloc, EntryKind::Message, &blob_id(b"hello\n", form))?;
+    let dropped = print_tree(rt, alloc, EntryKind::Deletion, &blob_id(b"", form))?;
+    print_alone(rt, alloc, &dropped)?;
+    print_chain(rt, alloc, &kept)
 }
 
 /// Prints the blobs.
-fn print_blobs(rt: &impl Print, alloc: Global) -> anyhow::Result<()> {
+fn print_blobs(rt: &impl Print, alloc: Global, form: Form) -> anyhow::Result<()> {
     for content in &BLOBS {
-        print_blob(rt, alloc, content)?;
+        print_blob(rt, alloc, content, form)?;
     }
-    print_blob(rt, alloc, every_byte(alloc)?.as_slice())
+    print_blob(rt, alloc, every_byte(alloc)?.as_slice(), form)
 }
 
 /// Prints the commits without a parent, each with this tree.
@@ -76,13 +72,13 @@ fn every_byte(alloc: Global) -> Result<Bytes, NoMemory> {
 }
 
 /// Prints the blob of a content.
-fn print_blob(rt: &impl Print, alloc: Global, content: &[u8]) -> anyhow::Result<()> {
+fn print_blob(rt: &impl Print, alloc: Global, content: &[u8], form: Form) -> anyhow::Result<()> {
     let spelling = blob_spelling(alloc, content)?;
     print_object(
         rt,
         alloc,
         "blob",
-        &blob_id(content, FORM),
+        &blob_id(content, form),
         spelling.as_slice(),
     )
 }
@@ -97,6 +93,17 @@ fn blob_spelling(alloc: Global, content: &[u8]) -> Result<Bytes, NoMemory> {
     Ok(spelling)
 }
 
+/// Prints the tree of an entry with this blob, and returns its id.
+fn print_tree(
+    rt: &impl Print,
+    alloc: Global,
+    kind: EntryKind,
+    blob: &ObjectId,
+) -> anyhow::Result<ObjectId> {
+    let spelling = tree_bytes(kind, blob);
+    print_named(rt, alloc, "tree", spelling.as_slice(), blob.form())
+}
+
 /// Prints a commit, and returns its id.
 fn print_commit(
     rt: &impl Print,
@@ -107,7 +114,7 @@ fn print_commit(
 ) -> anyhow::Result<ObjectId> {
     let commit = commit_of(alloc, tree, parent, sample)?;
     match spelled(alloc, &commit)? {
-        Some(spelling) => print_named(rt, alloc, "commit", spelling.as_slice()),
+        Some(spelling) => print_named(rt, alloc, "commit", spelling.as_slice(), tree.form()),
         None => Err(anyhow!("a sample is not clean")),
     }
 }
@@ -190,8 +197,9 @@ fn print_named(
     alloc: Global,
     kind: &str,
     spelling: &[u8],
+    form: Form,
 ) -> anyhow::Result<ObjectId> {
-    let id = object_id(spelling, FORM);
+    let id = object_id(spelling, form);
     print_object(rt, alloc, kind, &id, spelling)?;
     Ok(id)
 }
