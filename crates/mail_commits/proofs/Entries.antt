@@ -5,7 +5,8 @@ use Rattle.std.specs.Prelude.{ℤ, Result, Ok, Err, IfOk}
 use Rattle.std.proofs.lemmas.Int.{ints}
 use Rattle.arch_base.specs.declared.sequence.NoMemory.{NoMemory}
 use Rattle.git_objects.specs.Commits.{IsCommitZone, commit_spelling}
-use Rattle.arch_base.specs.declared.ids.Id20.{Id20}
+use Rattle.arch_base.specs.declared.ids.Form.{Form}
+use Rattle.arch_base.specs.declared.ids.ObjectId.{ObjectId}
 use Rattle.git_objects.specs.declared.commits.Commit.{Commit}
 use Rattle.git_objects.specs.declared.entry_kind.EntryKind.{EntryKind}
 use Rattle.git_objects.specs.CleanText.{clean}
@@ -16,7 +17,7 @@ use Rattle.mail_commits.specs.Commits.{commit_of, written_at}
 use Rattle.mail_commits.specs.Entries.{tree_of, commit_text, commit_id, entry_bytes}
 
 -- The commit of what a text says of itself.
-pub commit_of-made : (text : List ℕ) (tree : Id20) (parent : Option Id20) (moment : ℕ) (author email subject : List ℕ) (written : Moment) (zone : ℤ)
+pub commit_of-made : (text : List ℕ) (tree : ObjectId) (parent : Option ObjectId) (moment : ℕ) (author email subject : List ℕ) (written : Moment) (zone : ℤ)
     → author ≡ from_fact text → email ≡ email_fact text → subject ≡ clean (subject_fact text) → written ≡ written_at (date_fact text) moment
     → zone ≡ written.zone → let made : Commit = record { tree = tree; parent = parent; author = author; email = email; secs = written.secs; zone = zone; committed = moment; subject = subject } in
     made ≡ commit_of text tree parent moment
@@ -31,25 +32,25 @@ zone_fits zone h =
     omega (arith, ints)
 
 -- The form of the commit of a text.
-pub commit_text-made : (made : Result (List ℕ) NoMemory) (kind : EntryKind) (text : List ℕ) (moment : ℕ) (parent : Option Id20) (tree : Id20) (commit : Commit) → tree ≡ id_of (tree_of kind text)
-    → commit ≡ commit_of text tree parent moment → IfOk made (λ spelled. spelled ≡ commit_spelling commit) → IfOk made (λ spelled. spelled ≡ commit_text kind text moment parent)
+pub commit_text-made : (made : Result (List ℕ) NoMemory) (form : Form) (kind : EntryKind) (text : List ℕ) (moment : ℕ) (parent : Option ObjectId) (tree : ObjectId) (commit : Commit) → tree ≡ id_of form (tree_of form kind text)
+    → commit ≡ commit_of text tree parent moment → IfOk made (λ spelled. spelled ≡ commit_spelling commit) → IfOk made (λ spelled. spelled ≡ commit_text form kind text moment parent)
 unfolding commit_text
-commit_text-made (Ok spelled) kind text moment parent tree commit t e h =
+commit_text-made (Ok spelled) form kind text moment parent tree commit t e h =
     h ∙ ap commit_spelling (e ∙ ap (λ id. commit_of text id parent moment) t)
-commit_text-made (Err refused) kind text moment parent tree commit t e h = tt
+commit_text-made (Err refused) form kind text moment parent tree commit t e h = tt
 
 -- The objects of an entry, its blob's in two parts.
-pub entry_bytes-pieces : (kind : EntryKind) (text : List ℕ) (moment : ℕ) (parent : Option Id20) (head tree commit : List ℕ)
-    → head ≡ codes "blob " ++ (decimal (length text) ++ 0 ∷ []) → tree ≡ tree_of kind text → commit ≡ commit_text kind text moment parent
-    → head ++ (text ++ (tree ++ commit)) ≡ entry_bytes kind text moment parent
+pub entry_bytes-pieces : (form : Form) (kind : EntryKind) (text : List ℕ) (moment : ℕ) (parent : Option ObjectId) (head tree commit : List ℕ)
+    → head ≡ codes "blob " ++ (decimal (length text) ++ 0 ∷ []) → tree ≡ tree_of form kind text → commit ≡ commit_text form kind text moment parent
+    → head ++ (text ++ (tree ++ commit)) ≡ entry_bytes form kind text moment parent
 unfolding entry_bytes
-entry_bytes-pieces kind text moment parent head tree commit h t c =
+entry_bytes-pieces form kind text moment parent head tree commit h t c =
     let inner : (decimal (length text) ++ 0 ∷ []) ++ (text ++ (tree ++ commit)) ≡ (decimal (length text) ++ 0 ∷ text) ++ (tree ++ commit) =
     append_assoc (decimal (length text)) (0 ∷ []) (text ++ (tree ++ commit)) ∙ sym (append_assoc (decimal (length text)) (0 ∷ text) (tree ++ commit)) in
     let blob : head ++ (text ++ (tree ++ commit)) ≡ blob_spelling text ++ (tree ++ commit) = rw h (ap (λ bytes. codes "blob " ++ bytes) inner) in
     blob ∙ rw (t, c) refl
 
 -- The id of the commit of a text.
-pub commit_id-made : (kind : EntryKind) (text : List ℕ) (moment : ℕ) (parent : Option Id20) (id : Id20) → id ≡ id_of (commit_text kind text moment parent) → id ≡ commit_id kind text moment parent
+pub commit_id-made : (form : Form) (kind : EntryKind) (text : List ℕ) (moment : ℕ) (parent : Option ObjectId) (id : ObjectId) → id ≡ id_of form (commit_text form kind text moment parent) → id ≡ commit_id form kind text moment parent
 unfolding commit_id
-commit_id-made kind text moment parent id h = h
+commit_id-made form kind text moment parent id h = h

@@ -1,6 +1,6 @@
 -- The commit that keeps a text (git, "Git Objects").
 use Rattle.std.specs.Prelude.{ℕ, pos, List, Option, Some, None}
-use Rattle.arch_base.specs.declared.ids.Id20.{Id20}
+use Rattle.arch_base.specs.declared.ids.ObjectId.{ObjectId}
 use Rattle.git_objects.specs.declared.commits.Commit.{Commit}
 use Rattle.git_objects.specs.CleanText.{clean}
 use Rattle.mail_date.specs.declared.moment.Moment.{Moment}
@@ -14,7 +14,7 @@ written_at (Some written) moment = written
 
 -- The commit that keeps a text. Its author is the author of the text, its subject the clean subject
 -- of the text, and it was committed at the moment at which the text was taken.
-unfoldable pub commit_of : List ℕ → Id20 → Option Id20 → ℕ → Commit
+unfoldable pub commit_of : List ℕ → ObjectId → Option ObjectId → ℕ → Commit
 commit_of text tree parent moment = record {
   tree = tree;
   parent = parent;

@@ -5,11 +5,11 @@ ghost use Rattle.git_objects.specs.CleanText.{IsCleanText};
 ghost use Rattle.git_objects.specs.Commits.{IsCommitZone};
 ghost use Rattle.git_objects.specs.Objects.{blob_id_of};
 ghost use Rattle.mail_commits.specs.Commits.{commit_of};
-ghost use Rattle.mail_commits.specs.Entries.{commit_text as commit_text_of, commit_id, entry_bytes, tree_of};
+ghost use Rattle.mail_commits.specs.Entries.{commit_text as commit_text_of, commit_id, entry_bytes, magic as magic_of, tree_of};
 
 use crate::facts::{author, subject, written_at};
-use arch_base::{Bytes, NoMemory, ObjectId};
-use git_objects::{Commit, EntryKind, commit_bytes, object_id, tree_bytes};
+use arch_base::{Bytes, Form, NoMemory, ObjectId};
+use git_objects::{Commit, EntryKind, TreeBytes, commit_bytes, object_id, tree_bytes};
 use itoa::Buffer;
 use std::alloc::Global;
 
@@ -48,8 +48,28 @@ pub fn entry_commit(
     })
 }
 
-/// The first bytes of an epoch.
-pub const MAGIC: [u8; 8] = *b"PIV2EP1\n";
+/// Returns the first bytes of an epoch whose objects have ids of a form.
+pub fn magic(form: Form) -> [u8; 8]
+    ensures { result ≡ magic_of form }
+{
+    match form {
+        Form::Sha1 => *b"PIV2EP1\n",
+        Form::Sha256 => *b"PIV2EP2\n",
+    }
+}
+
+/// A text that an entry keeps.
+#[derive(Clone, Copy, Debug, Drop)]
+pub struct EntryText<'a> {
+    /// The form of the entry's ids.
+    pub form: Form,
+    /// A message or a deletion.
+    pub kind: EntryKind,
+    /// The text.
+    pub text: &'a [u8],
+    /// When the text was taken, in seconds since 1970 UTC.
+    pub moment: u64,
+}
 
 /// The ids of an entry's blob and commit.
 #[derive(Clone, Copy, Debug, Drop)]
@@ -63,33 +83,33 @@ pub struct EntryIds {
 /// Appends the objects of an entry to the bytes of an epoch, and returns the ids of its blob and
 /// commit.
 ///
-/// The objects are the blob of the text, its tree, in which the text is the file that `kind` names
+/// The objects are the blob of the text, its tree, in which the text is the file that the kind names
 /// (`m` for a message, `d` for a deletion), and the commit that keeps it after `parent`. `blob` is
-/// the id of that blob. `moment` is when the text was taken, in seconds since 1970 UTC.
+/// the id of that blob.
 ///
 /// `NoMemory` if an allocation fails, and the bytes are unchanged.
 pub fn push_entry(
     alloc: Global,
-    kind: EntryKind,
-    text: &[u8],
+    entry: &EntryText<'_>,
     blob: &ObjectId,
-    moment: u64,
     parent: Option<ObjectId>,
     into: &mut Bytes,
 ) -> Result<EntryIds, NoMemory>
-    requires blob { blob.now ≡ blob_id_of text.now }
-    ensures blob { IfOk result (λ ids. ids.blob ≡ blob_id_of text.now) }
-    ensures commit { IfOk result (λ ids. ids.commit ≡ commit_id kind text.now moment parent) }
-    ensures ok { OnOk result (into.new ≡ into.old ++ entry_bytes kind text.now moment parent) }
+    requires blob { blob.now ≡ blob_id_of entry.now.form entry.now.text.now }
+    ensures blob { IfOk result (λ ids. ids.blob ≡ blob_id_of entry.now.form entry.now.text.now) }
+    ensures commit { IfOk result (λ ids. ids.commit
+        ≡ commit_id entry.now.form entry.now.kind entry.now.text.now entry.now.moment parent) }
+    ensures ok { OnOk result (into.new ≡ into.old
+        ++ entry_bytes entry.now.form entry.now.kind entry.now.text.now entry.now.moment parent) }
     ensures err { OnErr result (into.new ≡ into.old) }
 {
-    let objects = entry_objects(alloc, kind, text, blob, moment, parent)?;
-    let head = blob_head(alloc, text.len())?;
+    let objects = entry_objects(alloc, entry, blob, parent)?;
+    let head = blob_head(alloc, entry.text.len())?;
     push_all(
         into,
         head.as_slice(),
-        text,
-        &objects.tree,
+        entry.text,
+        objects.tree.as_slice(),
         objects.commit.as_slice(),
     )?;
     Ok(objects.ids)
@@ -101,7 +121,7 @@ pub struct EntryObjects {
     /// The ids of its blob and its commit.
     pub ids: EntryIds,
     /// Its tree.
-    pub tree: [u8; 37],
+    pub tree: TreeBytes,
     /// Its commit.
     pub commit: Bytes,
 }
@@ -113,40 +133,42 @@ pub struct EntryObjects {
 /// `NoMemory` if an allocation fails.
 pub fn entry_objects(
     alloc: Global,
-    kind: EntryKind,
-    text: &[u8],
+    entry: &EntryText<'_>,
     blob: &ObjectId,
-    moment: u64,
     parent: Option<ObjectId>,
 ) -> Result<EntryObjects, NoMemory>
-    requires blob { blob.now ≡ blob_id_of text.now }
-    ensures blob { IfOk result (λ made. made.ids.blob ≡ blob_id_of text.now) }
-    ensures commit { IfOk result (λ made. made.ids.commit ≡ commit_id kind text.now moment parent) }
-    ensures tree { IfOk result (λ made. made.tree ≡ tree_of kind text.now) }
-    ensures spelled { IfOk result (λ made. made.commit ≡ commit_text_of kind text.now moment parent) }
+    requires blob { blob.now ≡ blob_id_of entry.now.form entry.now.text.now }
+    ensures blob { IfOk result (λ made.
+        made.ids.blob ≡ blob_id_of entry.now.form entry.now.text.now) }
+    ensures commit { IfOk result (λ made. made.ids.commit
+        ≡ commit_id entry.now.form entry.now.kind entry.now.text.now entry.now.moment parent) }
+    ensures tree { IfOk result (λ made.
+        made.tree ≡ tree_of entry.now.form entry.now.kind entry.now.text.now) }
+    ensures spelled { IfOk result (λ made. made.commit
+        ≡ commit_text_of entry.now.form entry.now.kind entry.now.text.now entry.now.moment parent) }
 {
-    let tree = tree_bytes(kind, blob);
-    let commit = commit_text(alloc, kind, text, &tree, parent, moment)?;
+    let tree = tree_bytes(entry.kind, blob);
+    let commit = commit_text(alloc, entry, tree.as_slice(), parent)?;
     let ids = EntryIds {
         blob: *blob,
-        commit: object_id(commit.as_slice()),
+        commit: object_id(commit.as_slice(), entry.form),
     };
     Ok(EntryObjects { ids, tree, commit })
 }
 
-/// Returns the form of the commit of an entry of a kind. `tree` is the form of its tree.
+/// Returns the commit of an entry as it is spelled. `tree` is its tree as it is spelled.
 fn commit_text(
     alloc: Global,
-    kind: EntryKind,
-    text: &[u8],
+    entry: &EntryText<'_>,
     tree: &[u8],
     parent: Option<ObjectId>,
-    moment: u64,
 ) -> Result<Bytes, NoMemory>
-    requires { tree.now ≡ tree_of kind text.now }
-    ensures { IfOk result (λ made. made ≡ commit_text_of kind text.now moment parent) }
+    requires { tree.now ≡ tree_of entry.now.form entry.now.kind entry.now.text.now }
+    ensures { IfOk result (λ made. made
+        ≡ commit_text_of entry.now.form entry.now.kind entry.now.text.now entry.now.moment parent) }
 {
-    let commit = entry_commit(alloc, text, &object_id(tree), parent, moment)?;
+    let tree = object_id(tree, entry.form);
+    let commit = entry_commit(alloc, entry.text, &tree, parent, entry.moment)?;
     commit_bytes(alloc, &commit)
 }
 

@@ -3,7 +3,7 @@
 ghost use Rattle.std.specs.Prelude.{◌≡◌};
 ghost use Rattle.mail_commits.specs.Ids.{text_ids_of};
 
-use arch_base::ObjectId;
+use arch_base::{Form, ObjectId};
 use git_objects::blob_id;
 use mail_reader::content_id;
 
@@ -16,12 +16,12 @@ pub struct TextIds {
     pub content: [u8; 32],
 }
 
-/// Returns the ids of a text. Reads it twice: each id is a hash of its own.
-pub fn text_ids(text: &[u8]) -> TextIds
-    ensures { result ≡ text_ids_of text.now }
+/// Returns the ids of a text, its blob id in a form. Reads it twice: each id is a hash of its own.
+pub fn text_ids(text: &[u8], form: Form) -> TextIds
+    ensures { result ≡ text_ids_of form text.now }
 {
     TextIds {
-        blob: blob_id(text),
+        blob: blob_id(text, form),
         content: content_id(text),
     }
 }

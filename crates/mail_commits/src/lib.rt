@@ -6,5 +6,7 @@ mod commits;
 mod facts;
 mod ids;
 
-pub use commits::{EntryIds, EntryObjects, MAGIC, entry_commit, entry_objects, push_entry};
+pub use commits::{
+    EntryIds, EntryObjects, EntryText, entry_commit, entry_objects, magic, push_entry,
+};
 pub use ids::{TextIds, text_ids};

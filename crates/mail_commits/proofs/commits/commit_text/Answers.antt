@@ -5,5 +5,6 @@ use Rattle.mail_commits.proofs.commits.commit_text.Goals as goal
 
 pub returns : goal.returns
 returns c =
-    commit_text-made c.commit_bytes.result c.args.kind c.args.text.now c.args.moment c.args.parent c.object_id.result c.in_ok-commit.commit (c.object_id.ensures.value ∙ ap id_of c.requires)
+    let entry = c.args.entry.now in
+    commit_text-made c.commit_bytes.result entry.form entry.kind entry.text.now entry.moment c.args.parent c.object_id-tree.result c.in_ok-commit.commit (c.object_id-tree.ensures.value ∙ ap (id_of entry.form) c.requires)
     c.in_ok-commit.ensures.value c.commit_bytes.ensures
