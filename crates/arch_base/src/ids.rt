@@ -105,7 +105,8 @@ fn are_bytes(bytes: &[u8])
 /// for any other text.
 pub fn id_of_hex(text: &[u8], form: Form) -> Option<ObjectId>
     ensures found { IfSome result (λ id. IsObjectId form id × (text.now ≡ encode_lower (id_bytes id))) }
-    ensures none { IfNone result ((id : ObjectId) → IsObjectId form id → text.now ≢ encode_lower (id_bytes id)) }
+    ensures none { IfNone result ((id : ObjectId) → IsObjectId form id
+        → text.now ≢ encode_lower (id_bytes id)) }
 {
     let mut bytes = [0u8; 32];
     let digest = &mut bytes[..form.id_size()];

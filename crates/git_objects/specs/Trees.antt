@@ -1,4 +1,5 @@
--- The bytes of a tree's spelling around the name of its file and the id, by the form of the id.
+-- Private: the bytes of a tree's spelling around the name of its file and the id, by the form of
+-- the id.
 use Rattle.std.specs.Prelude.{ℕ, List, codes}
 use Rattle.arch_base.specs.declared.ids.Form.{Form}
 use Rattle.arch_base.specs.declared.ids.Form.TheVariants.{Sha1, Sha256}
