@@ -5,7 +5,10 @@ use Rattle.std.proofs.lemmas.Fmt.{decimal_injective}
 use Rattle.std.specs.Fmt.{decimal}
 use Rattle.std.specs.Prelude.{ℤ, pos}
 use Rattle.hex.specs.Hex.{encode_lower}
-use Rattle.arch_base.specs.declared.ids.Id20.{Id20}
+use Rattle.arch_base.specs.declared.ids.Form.{Form}
+use Rattle.arch_base.specs.declared.ids.ObjectId.{ObjectId}
+use Rattle.arch_base.specs.Ids.{id_bytes}
+use Rattle.arch_base.proofs.SameIds.{id_size-most}
 use Rattle.git_objects.specs.CleanText.{clean}
 use Rattle.git_objects.specs.Commits.{commit_content, tree_line, parent_line, author_line, committed_part, text_part, email_part, name_part, number_part, zone_text}
 use Rattle.git_objects.specs.declared.entry_kind.EntryKind.{EntryKind}
@@ -36,15 +39,15 @@ after_digits : (digits x y : List ℕ) (end : ℕ) → digits ++ end ∷ x ≡ d
 after_digits digits x y end e = tail_once end x y (append_cancel_left digits (end ∷ x) (end ∷ y) e)
 
 -- The bytes after a parent's line.
-after_parent : (parent : Option Id20) (x y : List ℕ) → parent_line parent x ≡ parent_line parent y → x ≡ y
+after_parent : (parent : Option ObjectId) (x y : List ℕ) → parent_line parent x ≡ parent_line parent y → x ≡ y
 after_parent None x y e = e
-after_parent (Some id) x y e = after_digits (encode_lower id.0) x y 10 (append_cancel_left (codes "parent ") (encode_lower id.0 ++ 10 ∷ x) (encode_lower id.0 ++ 10 ∷ y) e)
+after_parent (Some id) x y e = after_digits (encode_lower (id_bytes id)) x y 10 (append_cancel_left (codes "parent ") (encode_lower (id_bytes id) ++ 10 ∷ x) (encode_lower (id_bytes id) ++ 10 ∷ y) e)
 
 -- The bytes after the lines of tree and parent.
-after_ids : (tree : Id20) (parent : Option Id20) (x y : List ℕ) → tree_line tree (parent_line parent x) ≡ tree_line tree (parent_line parent y) → x ≡ y
+after_ids : (tree : ObjectId) (parent : Option ObjectId) (x y : List ℕ) → tree_line tree (parent_line parent x) ≡ tree_line tree (parent_line parent y) → x ≡ y
 after_ids tree parent x y e =
-    after_parent parent x y (after_digits (encode_lower tree.0) (parent_line parent x) (parent_line parent y) 10
-    (append_cancel_left (codes "tree ") (encode_lower tree.0 ++ 10 ∷ parent_line parent x) (encode_lower tree.0 ++ 10 ∷ parent_line parent y) e))
+    after_parent parent x y (after_digits (encode_lower (id_bytes tree)) (parent_line parent x) (parent_line parent y) 10
+    (append_cancel_left (codes "tree ") (encode_lower (id_bytes tree) ++ 10 ∷ parent_line parent x) (encode_lower (id_bytes tree) ++ 10 ∷ parent_line parent y) e))
 
 -- The bytes after the author's name and address.
 after_author : (name email : List ℕ) (m n : ℕ) (z w : ℤ) (x y : List ℕ) → author_line name email m z x ≡ author_line name email n w y → decimal m ++ 32 ∷ zone_text z x ≡ decimal n ++ 32 ∷ zone_text w y
@@ -60,7 +63,7 @@ after_zone : (zone : ℤ) (x y : List ℕ) → zone_text zone x ≡ zone_text zo
 after_zone zone x y e = cc
 
 -- Two commits with the same text, tree, parent and content have the same moment.
-moment_once : (text : List ℕ) (tree : Id20) (parent : Option Id20) (m n : ℕ) → m ≤ last_moment → n ≤ last_moment
+moment_once : (text : List ℕ) (tree : ObjectId) (parent : Option ObjectId) (m n : ℕ) → m ≤ last_moment → n ≤ last_moment
     → commit_content (commit_of text tree parent m) ≡ commit_content (commit_of text tree parent n) → m ≡ n
 unfolding commit_of
 moment_once text tree parent m n small fits e = go (date_fact text) (after_ids tree parent _ _ e) where
@@ -79,57 +82,57 @@ moment_once text tree parent m n small fits e = go (date_fact text) (after_ids t
       (append_cancel_left (codes "\ncommitter piv2 <piv2@localhost> ") (number_part 32 m (codes "+0000\n\n" ++ end)) (number_part 32 n (codes "+0000\n\n" ++ end)) parts)
 
 -- The content of a tree is small.
-tree_small : (kind : EntryKind) (text : List ℕ) → length (tree_content kind (blob_id_of text)) < 2 ^ 64
-tree_small kind text = omega (arith, length-tree_content kind (blob_id_of text) (IsObjectId-id_of (blob_spelling text)).len)
+tree_small : (form : Form) (kind : EntryKind) (text : List ℕ) → length (tree_content kind (blob_id_of form text)) < 2 ^ 64
+tree_small form kind text = omega (arith, length-tree_content kind (blob_id_of form text), (IsObjectId-id_of form (blob_spelling text)).len, id_size-most form)
 
 -- Entries with equal parts are equal.
 same_entry : (e f : EpochEntry) → e.kind ≡ f.kind → e.text ≡ f.text → e.moment ≡ f.moment → e ≡ f
 same_entry e f n t m = λ i. record { kind = n i; text = t i; moment = m i }
 
 -- Bytes determine the first entry that they start with, and the rest after it.
-pub entry_once : (parent : Option Id20) (e f : EpochEntry) (x y : List ℕ) → IsEpochEntry e → IsEpochEntry f → length (bytes_after parent e ++ x) < 2 ^ 64
-    → bytes_after parent e ++ x ≡ bytes_after parent f ++ y → (e ≡ f) × (x ≡ y)
-entry_once parent e f x y h k small is =
-    let ce = content_after parent e in
-    let cf = content_after parent f in
+pub entry_once : (form : Form) (parent : Option ObjectId) (e f : EpochEntry) (x y : List ℕ) → IsEpochEntry e → IsEpochEntry f → length (bytes_after form parent e ++ x) < 2 ^ 64
+    → bytes_after form parent e ++ x ≡ bytes_after form parent f ++ y → (e ≡ f) × (x ≡ y)
+entry_once form parent e f x y h k small is =
+    let ce = content_after form parent e in
+    let cf = content_after form parent f in
     let commit_e = (codes "commit " ++ (decimal (length ce) ++ 0 ∷ ce)) ++ x in
     let commit_f = (codes "commit " ++ (decimal (length cf) ++ 0 ∷ cf)) ++ y in
-    let te = tree_content e.kind (blob_id_of e.text) in
-    let tf = tree_content f.kind (blob_id_of f.text) in
-    let sizes : length (bytes_after parent e ++ x) ≡ length (bytes_after parent f ++ y) = ap length is in
-    let blobs : codes "blob " ++ sized_before e.text (tree_of e.kind e.text ++ commit_e) ≡ codes "blob " ++ sized_before f.text (tree_of f.kind f.text ++ commit_f) =
-    sym (headed (codes "blob ") e.text (tree_of e.kind e.text ++ commit_e)) ∙ (sym (objects parent e x) ∙ (is ∙ (objects parent f y ∙ headed (codes "blob ") f.text (tree_of f.kind f.text ++ commit_f)))) in
-    let texts = sized-once e.text f.text (tree_of e.kind e.text ++ commit_e) (tree_of f.kind f.text ++ commit_f) (omega (arith, h.text.short)) (omega (arith, k.text.short))
-    (append_cancel_left (codes "blob ") (sized_before e.text (tree_of e.kind e.text ++ commit_e)) (sized_before f.text (tree_of f.kind f.text ++ commit_f)) blobs) in
+    let te = tree_content e.kind (blob_id_of form e.text) in
+    let tf = tree_content f.kind (blob_id_of form f.text) in
+    let sizes : length (bytes_after form parent e ++ x) ≡ length (bytes_after form parent f ++ y) = ap length is in
+    let blobs : codes "blob " ++ sized_before e.text (tree_of form e.kind e.text ++ commit_e) ≡ codes "blob " ++ sized_before f.text (tree_of form f.kind f.text ++ commit_f) =
+    sym (headed (codes "blob ") e.text (tree_of form e.kind e.text ++ commit_e)) ∙ (sym (objects form parent e x) ∙ (is ∙ (objects form parent f y ∙ headed (codes "blob ") f.text (tree_of form f.kind f.text ++ commit_f)))) in
+    let texts = sized-once e.text f.text (tree_of form e.kind e.text ++ commit_e) (tree_of form f.kind f.text ++ commit_f) (omega (arith, h.text.short)) (omega (arith, k.text.short))
+    (append_cancel_left (codes "blob ") (sized_before e.text (tree_of form e.kind e.text ++ commit_e)) (sized_before f.text (tree_of form f.kind f.text ++ commit_f)) blobs) in
     let trees : codes "tree " ++ sized_before te commit_e ≡ codes "tree " ++ sized_before tf commit_f = sym (headed (codes "tree ") te commit_e) ∙ (texts.1 ∙ headed (codes "tree ") tf commit_f) in
-    let tree_parts = sized-once te tf commit_e commit_f (tree_small e.kind e.text) (tree_small f.kind f.text) (append_cancel_left (codes "tree ") (sized_before te commit_e) (sized_before tf commit_f) trees) in
-    let kinds : e.kind ≡ f.kind = (tree-once e.kind f.kind (blob_id_of e.text) (blob_id_of f.text) tree_parts.0).0 in
+    let tree_parts = sized-once te tf commit_e commit_f (tree_small form e.kind e.text) (tree_small form f.kind f.text) (append_cancel_left (codes "tree ") (sized_before te commit_e) (sized_before tf commit_f) trees) in
+    let kinds : e.kind ≡ f.kind = (tree-once e.kind f.kind (blob_id_of form e.text) (blob_id_of form f.text) (IsObjectId-id_of form (blob_spelling e.text)) (IsObjectId-id_of form (blob_spelling f.text)) tree_parts.0).0 in
     let commits : codes "commit " ++ sized_before ce x ≡ codes "commit " ++ sized_before cf y = sym (headed (codes "commit ") ce x) ∙ (tree_parts.1 ∙ headed (codes "commit ") cf y) in
-    let contents = sized-once ce cf x y (omega (arith, small, length-entry parent e, length-append (bytes_after parent e) x)) (omega (arith, small, sizes, length-entry parent f, length-append (bytes_after parent f) y))
+    let contents = sized-once ce cf x y (omega (arith, small, length-entry form parent e, length-append (bytes_after form parent e) x)) (omega (arith, small, sizes, length-entry form parent f, length-append (bytes_after form parent f) y))
     (append_cancel_left (codes "commit ") (sized_before ce x) (sized_before cf y) commits) in
     let t = sym texts.0 in
     let n = sym kinds in
-    let moved : commit_content (commit_of f.text (id_of (tree_of f.kind f.text)) parent e.moment) ≡ ce = λ i. commit_content (commit_of (t i) (id_of (tree_of (n i) (t i))) parent e.moment) in
-    let moments = moment_once f.text (id_of (tree_of f.kind f.text)) parent e.moment f.moment h.moment k.moment (moved ∙ contents.0) in
+    let moved : commit_content (commit_of f.text (id_of form (tree_of form f.kind f.text)) parent e.moment) ≡ ce = λ i. commit_content (commit_of (t i) (id_of form (tree_of form (n i) (t i))) parent e.moment) in
+    let moments = moment_once f.text (id_of form (tree_of form f.kind f.text)) parent e.moment f.moment h.moment k.moment (moved ∙ contents.0) in
     (same_entry e f kinds texts.0 moments, contents.1)
 
 -- An entry isn't empty.
-entry_not_none : (parent : Option Id20) (e : EpochEntry) (x : List ℕ) → [] ≡ bytes_after parent e ++ x → ⊥
-entry_not_none parent e x is = omega (arith, ap length is, length-append (bytes_after parent e) x, length-entry parent e)
+entry_not_none : (form : Form) (parent : Option ObjectId) (e : EpochEntry) (x : List ℕ) → [] ≡ bytes_after form parent e ++ x → ⊥
+entry_not_none form parent e x is = omega (arith, ap length is, length-append (bytes_after form parent e) x, length-entry form parent e)
 
 -- The bytes of entries after a parent determine them.
-chain_once : (parent : Option Id20) (es fs : List EpochEntry) → AreEpochEntries es → AreEpochEntries fs → length (chain parent es) < 2 ^ 64 → chain parent es ≡ chain parent fs → es ≡ fs
-chain_once parent [] [] h k small is = refl
-chain_once parent [] (f ∷ fs) h k small is = absurd (entry_not_none parent f (chain (Some (commit_after parent f)) fs) is)
-chain_once parent (e ∷ es) [] h k small is = absurd (entry_not_none parent e (chain (Some (commit_after parent e)) es) (sym is))
-chain_once parent (e ∷ es) (f ∷ fs) h k small is =
-    let rest = chain (Some (commit_after parent e)) es in
-    let first = entry_once parent e f rest (chain (Some (commit_after parent f)) fs) h.0 k.0 small is in
-    let moved : chain (Some (commit_after parent f)) fs ≡ chain (Some (commit_after parent e)) fs = ap (λ (d : EpochEntry). chain (Some (commit_after parent d)) fs) (sym first.0) in
-    let others = chain_once (Some (commit_after parent e)) es fs h.1 k.1 (omega (arith, small, length-append (bytes_after parent e) rest)) (first.1 ∙ moved) in
+chain_once : (form : Form) (parent : Option ObjectId) (es fs : List EpochEntry) → AreEpochEntries es → AreEpochEntries fs → length (chain form parent es) < 2 ^ 64 → chain form parent es ≡ chain form parent fs → es ≡ fs
+chain_once form parent [] [] h k small is = refl
+chain_once form parent [] (f ∷ fs) h k small is = absurd (entry_not_none form parent f (chain form (Some (commit_after form parent f)) fs) is)
+chain_once form parent (e ∷ es) [] h k small is = absurd (entry_not_none form parent e (chain form (Some (commit_after form parent e)) es) (sym is))
+chain_once form parent (e ∷ es) (f ∷ fs) h k small is =
+    let rest = chain form (Some (commit_after form parent e)) es in
+    let first = entry_once form parent e f rest (chain form (Some (commit_after form parent f)) fs) h.0 k.0 small is in
+    let moved : chain form (Some (commit_after form parent f)) fs ≡ chain form (Some (commit_after form parent e)) fs = ap (λ (d : EpochEntry). chain form (Some (commit_after form parent d)) fs) (sym first.0) in
+    let others = chain_once form (Some (commit_after form parent e)) es fs h.1 k.1 (omega (arith, small, length-append (bytes_after form parent e) rest)) (first.1 ∙ moved) in
     let one = first.0 in
     λ i. one i ∷ others i
 
 -- The bytes of an epoch determine its entries.
 pub epochs_differ : EpochsDiffer
-epochs_differ es fs h k small is = chain_once None es fs h k (omega (arith, small, length-append magic (chain None es))) (append_cancel_left magic (chain None es) (chain None fs) is)
+epochs_differ form es fs h k small is = chain_once form None es fs h k (omega (arith, small, length-append (magic form) (chain form None es))) (append_cancel_left (magic form) (chain form None es) (chain form None fs) is)

@@ -1,7 +1,8 @@
 -- The commit that keeps a text is one that is spelled and read.
 use Rattle.std.proofs.Common.{◌≡◌, ℕ, ◌≤◌, List, [], ◌∷◌, ◌++◌, Option, Some, None, IfSome, refl, arith}
 use Rattle.std.proofs.lemmas.Int.{ints}
-use Rattle.arch_base.specs.declared.ids.Id20.{Id20}
+use Rattle.arch_base.specs.declared.ids.Form.{Form}
+use Rattle.arch_base.specs.declared.ids.ObjectId.{ObjectId}
 use Rattle.arch_base.specs.Ids.{IsObjectId}
 use Rattle.git_objects.specs.CleanText.{clean, IsCleanText}
 use Rattle.git_objects.specs.Commits.{IsCommit, IsParent}
@@ -42,9 +43,9 @@ written_near None moment small h = record { secs = small; zone = record { low = 
 written_near (Some written) moment small h = h
 
 -- The commit of a text is valid.
-pub commit_valid : (text : List ℕ) (tree : Id20) (parent : Option Id20) (moment : ℕ) → IsObjectId tree → IsParent parent → moment ≤ last_moment → IsCommit (commit_of text tree parent moment)
+pub commit_valid : (form : Form) (text : List ℕ) (tree : ObjectId) (parent : Option ObjectId) (moment : ℕ) → IsObjectId form tree → IsParent form parent → moment ≤ last_moment → IsCommit form (commit_of text tree parent moment)
 unfolding commit_of
-commit_valid text tree parent moment t p small =
+commit_valid form text tree parent moment t p small =
     let near = written_near (date_fact text) moment small (date-near text) in
     record {
       tree = t;
@@ -58,16 +59,16 @@ commit_valid text tree parent moment t p small =
     }
 
 -- The moment of the commit of a text.
-pub committed-is : (text : List ℕ) (tree : Id20) (parent : Option Id20) (moment : ℕ) → (commit_of text tree parent moment).committed ≡ moment
+pub committed-is : (text : List ℕ) (tree : ObjectId) (parent : Option ObjectId) (moment : ℕ) → (commit_of text tree parent moment).committed ≡ moment
 unfolding commit_of
 committed-is text tree parent moment = refl
 
 -- The id of an entry's commit is valid.
-pub IsObjectId-commit : (parent : Option Id20) (e : EpochEntry) → IsObjectId (commit_after parent e)
+pub IsObjectId-commit : (form : Form) (parent : Option ObjectId) (e : EpochEntry) → IsObjectId form (commit_after form parent e)
 unfolding commit_id
-IsObjectId-commit parent e = IsObjectId-id_of (commit_text e.kind e.text e.moment parent)
+IsObjectId-commit form parent e = IsObjectId-id_of form (commit_text form e.kind e.text e.moment parent)
 
 -- The last commit of entries may be a parent.
-pub IsParent-last : (parent : Option Id20) (es : List EpochEntry) → IsParent parent → IsParent (last_of parent es)
-IsParent-last parent [] h = h
-IsParent-last parent (e ∷ es) h = IsParent-last (Some (commit_after parent e)) es (IsObjectId-commit parent e)
+pub IsParent-last : (form : Form) (parent : Option ObjectId) (es : List EpochEntry) → IsParent form parent → IsParent form (last_of form parent es)
+IsParent-last form parent [] h = h
+IsParent-last form parent (e ∷ es) h = IsParent-last form (Some (commit_after form parent e)) es (IsObjectId-commit form parent e)

@@ -1,10 +1,11 @@
 -- Where entries lie in a file that is walked, and in one that is written anew.
-use Rattle.std.specs.Prelude.{◌≡◌, ◌+◌, ◌<◌, ◌≤◌, codes, ℕ, List, [], ◌∷◌, ◌++◌, length, slice_get, Bool, true, false, Option, Some, None, is_some, refl}
-use Rattle.std.specs.Fmt.{decimal}
-use Rattle.std.proofs.Common.{◌∙◌, sym, ap, subst, arith, length-append}
-use Rattle.arch_base.specs.declared.ids.Id20.{Id20}
+use Rattle.std.specs.Prelude.{◌≡◌, ◌+◌, ◌≤◌, ℕ, List, [], ◌∷◌, ◌++◌, length, true, false, Option, Some, None, is_some, refl}
+use Rattle.std.proofs.Common.{◌∙◌, sym, ap, subst, arith}
+use Rattle.arch_base.specs.declared.ids.Form.{Form}
+use Rattle.arch_base.specs.declared.ids.ObjectId.{ObjectId}
+use Rattle.arch_base.specs.Ids.{form_of}
+use Rattle.git_objects.specs.Trees.{tree_size}
 use Rattle.root_change.specs.Rewriting.{Plan, no_plan, plan_count, with_bytes, with_range}
-use Rattle.root_change.specs.declared.sources.Source.{Source}
 use Rattle.root_change.specs.declared.sources.Source.TheVariants.{Bytes, Range}
 use Rattle.root_change.specs.declared.plan.Target.TheVariants.{Anew}
 use Rattle.root_change.proofs.Pushes.{count_with_bytes, count_with_range, each_more}
@@ -13,11 +14,11 @@ use Rattle.disk_model.specs.declared.name.FileKind.TheVariants.{Epoch}
 use Rattle.epoch_file.specs.declared.entry.Seen.{Seen}
 use Rattle.epoch_file.specs.Entries.{EpochEntry, bytes_after}
 use Rattle.epoch_file.specs.Lying.{EntryLiesIn, LieIn, tree_end}
-use Rattle.epoch_file.specs.Planning.{CopiesEntry, EndUpTo, FinishesIn, IsMoved, IsPlannedIn, SourceEndsBy, KeepsIn, LeftOutIn, Planned, PlannedBy, count_by, reach_by}
+use Rattle.epoch_file.specs.Planning.{CopiesEntry, EndUpTo, FinishesIn, IsMoved, IsPlannedIn, SourceEndsBy, KeepsIn, LeftOutIn, Planned, PlannedBy, reach_by}
 use Rattle.epoch_file.specs.Reading.{IsEntryRead}
 use Rattle.epoch_file.specs.Walking.{seen_at}
 use Rattle.epoch_file.proofs.Planned.{first_plan, none_there}
-use Rattle.epoch_file.proofs.Sizes.{length-entry}
+use Rattle.epoch_file.proofs.Sizes.{length-entry, tree_by_blob}
 
 -- One more entry, after those before.
 pub lie_more : (from mid to : ℕ) (ss : List Seen) (s : Seen) → from ≤ mid → mid ≤ to → LieIn from mid ss → EntryLiesIn mid to s → LieIn from to (ss ++ s ∷ [])
@@ -28,12 +29,16 @@ lie_more from mid to (t ∷ ss) s least most lie lies = (
 )
 
 -- An entry that is read lies in its bytes.
-entry_lies : (offset : ℕ) (parent : Option Id20) (e : EpochEntry) → EntryLiesIn offset (offset + length (bytes_after parent e)) (seen_at offset parent e)
-entry_lies offset parent e = record { at = omega arith; text = omega arith; ends = (let size = length-entry parent e in omega (arith, size)) }
+entry_lies : (form : Form) (offset : ℕ) (parent : Option ObjectId) (e : EpochEntry) → EntryLiesIn offset (offset + length (bytes_after form parent e)) (seen_at form offset parent e)
+entry_lies form offset parent e = record { at = omega arith; text = omega arith; ends = (let size = length-entry form parent e in let tree = tree_by_blob form e.text in omega (arith, size, tree)) }
 
-pub read_lies : (offset : ℕ) (parent : Option Id20) (bytes : List ℕ) (found : Seen × ℕ) → IsEntryRead offset parent bytes found → EntryLiesIn offset (offset + found.1) found.0
-read_lies offset parent bytes found r =
-    subst (λ (s : Seen). EntryLiesIn offset (offset + found.1) s) (sym r.seen) (subst (λ (n : ℕ). EntryLiesIn offset (offset + n) (seen_at offset parent r.entry)) (sym r.size) (entry_lies offset parent r.entry))
+pub read_lies : (form : Form) (offset : ℕ) (parent : Option ObjectId) (bytes : List ℕ) (found : Seen × ℕ) → IsEntryRead form offset parent bytes found → EntryLiesIn offset (offset + found.1) found.0
+read_lies form offset parent bytes found r =
+    subst (λ (s : Seen). EntryLiesIn offset (offset + found.1) s) (sym r.seen) (subst (λ (n : ℕ). EntryLiesIn offset (offset + n) (seen_at form offset parent r.entry)) (sym r.size) (entry_lies form offset parent r.entry))
+
+-- The tree of an entry that is recorded at another offset is as long.
+tree_moved : (seen : Seen) (at : ℕ) (commit : ObjectId) (made : Seen) → IsMoved seen at commit made → tree_size (form_of made.blob) ≡ tree_size (form_of seen.blob)
+tree_moved seen at commit made moved = ap (λ (id : ObjectId). tree_size (form_of id)) moved.blob
 
 -- An entry stays in its place.
 pub keeps_in_place : (from most : ℕ) (old new : Planned) (seen made : Seen) → old.changed ≡ None → new.changed ≡ None → IsMoved seen seen.at seen.commit made → EntryLiesIn from most seen → KeepsIn from most old seen new made
@@ -45,9 +50,10 @@ keeps_in_place from most old new seen made none still moved lies =
     let after : reach_by (tree_end seen) new.end_ new.changed ≡ tree_end seen = ap (reach_by (tree_end seen) new.end_) still in
     let was_at = lies.at in
     let was_text = lies.text in
+    let tree = tree_moved seen seen.at seen.commit made moved in
     record {
       planned = subst (PlannedBy most new.end_) (sym still) tt;
-      lies = record { at = omega (arith, before, at, was_at); text = omega (arith, at, text, was_text); ends = omega (arith, after, at, text, size) };
+      lies = record { at = omega (arith, before, at, was_at); text = omega (arith, at, text, was_text); ends = omega (arith, after, at, text, size, tree) };
     }
 
 -- Plans whose ranges end up to an offset, with one source more.
@@ -58,7 +64,7 @@ up_with_range : (most : ℕ) (plan : Plan) (file : FileName) (offset count : ℕ
 up_with_range most plan file offset count up ends = each_more (SourceEndsBy most) plan.sources (Range (record { file = file; offset = offset; count = count })) up ends
 
 -- An entry is copied to the new file.
-pub keeps_copied_in : (from most : ℕ) (old new : Planned) (plan made_plan : Plan) (seen made : Seen) (commit : Id20) (bytes : List ℕ) → old.changed ≡ Some plan → new.changed ≡ Some made_plan → new.end_ ≡ plan_count made_plan → CopiesEntry old.file seen bytes plan made_plan
+pub keeps_copied_in : (from most : ℕ) (old new : Planned) (plan made_plan : Plan) (seen made : Seen) (commit : ObjectId) (bytes : List ℕ) → old.changed ≡ Some plan → new.changed ≡ Some made_plan → new.end_ ≡ plan_count made_plan → CopiesEntry old.file seen bytes plan made_plan
     → IsMoved seen old.end_ commit made → EntryLiesIn from most seen → IsPlannedIn most old → KeepsIn from most old seen new made
 keeps_copied_in from most old new plan made_plan seen made commit bytes some now end_is copies moved lies in_ =
     let n : ℕ = copies.0 in
@@ -76,9 +82,10 @@ keeps_copied_in from most old new plan made_plan seen made commit bytes some now
     let size = moved.size in
     let before : reach_by from old.end_ old.changed ≡ old.end_ = ap (reach_by from old.end_) some in
     let after : reach_by (tree_end seen) new.end_ new.changed ≡ new.end_ = ap (reach_by (tree_end seen) new.end_) now in
+    let tree = tree_moved seen old.end_ commit made moved in
     record {
       planned = subst (PlannedBy most new.end_) (sym now) (up, sym end_is);
-      lies = record { at = omega (arith, before, at); text = omega (arith, at, text, was_text); ends = omega (arith, after, at, text, size, end_is, long, was_end, count) };
+      lies = record { at = omega (arith, before, at); text = omega (arith, at, text, was_text); ends = omega (arith, after, at, text, size, tree, end_is, long, was_end, count) };
     }
 
 -- An entry is left out: the first one, or after another one.
@@ -108,7 +115,7 @@ leaves_more_in from most old new plan seen some same in_ =
 -- The plan of the whole file.
 pub finishes_as : (most : ℕ) (old : Planned) → IsPlannedIn most old → FinishesIn most old old.changed
 finishes_as most old in_ = by old.changed in_ where
-  by : (changed : Option Plan) → PlannedBy most old.end_ changed → FinishesIn most (record { file = old.file; changed = changed; end_ = old.end_; parent = old.parent }) changed
+  by : (changed : Option Plan) → PlannedBy most old.end_ changed → FinishesIn most (record { file = old.file; changed = changed; end_ = old.end_; parent = old.parent; form = old.form }) changed
   by None so = record { ranges = tt; count = λ some from. refl }
   by (Some plan) so = record { ranges = so.0; count = λ some from. so.1 }
 

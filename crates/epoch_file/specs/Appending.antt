@@ -1,5 +1,6 @@
 -- What appending an entry writes, and what it leaves of the disk.
 use Rattle.std.specs.Prelude.{◌≡◌, ℕ, ◌+◌, ◌==◌, List, [], ◌++◌, length, Option, Result, Ok, Err, if◌then◌else◌}
+use Rattle.arch_base.specs.declared.ids.Form.{Form}
 use Rattle.disk_model.specs.declared.name.FileName.{FileName}
 use Rattle.disk_model.specs.Disk.{Content, BothTold, OneFile, Wrote, Tore}
 use Rattle.git_objects.specs.Objects.{blob_id_of}
@@ -15,20 +16,20 @@ abbrev pub entry_of : NewEntry → EpochEntry
 entry_of new = record { kind = new.kind; text = new.text.now; moment = new.moment }
 
 -- The bytes before an entry at an offset: the magic at offset 0, and otherwise none.
-abbrev pub front_at : ℕ → List ℕ
-front_at offset = if offset == 0 then magic else []
+abbrev pub front_at : Form → ℕ → List ℕ
+front_at form offset = if offset == 0 then magic form else []
 
 -- The bytes that are written for a new entry at an offset.
 abbrev pub appended : ℕ → NewEntry → List ℕ
-appended offset new = front_at offset ++ bytes_after new.parent (entry_of new)
+appended offset new = front_at new.form offset ++ bytes_after new.form new.parent (entry_of new)
 
 -- The result of an append: the offset after the last byte, and the ids of the entry's blob and
 -- commit.
 abbrev pub written_of : ℕ → NewEntry → Written
 written_of offset new = record {
   end = offset + length (appended offset new);
-  blob = blob_id_of new.text.now;
-  commit = commit_after new.parent (entry_of new);
+  blob = blob_id_of new.form new.text.now;
+  commit = commit_after new.form new.parent (entry_of new);
 }
 
 -- What an append leaves of the disk: the bytes are written, or the write failed, or nothing was

@@ -1,7 +1,9 @@
--- The entries of an epoch's file and their bytes: the magic, then for each entry a blob, a tree of
--- one file that names the blob, and a commit that names the tree (git, "Git Objects").
+-- The entries of an epoch's file and their bytes: the magic of the form of its ids, then for each
+-- entry a blob, a tree of one file that names the blob, and a commit that names the tree (git, "Git
+-- Objects").
 use Rattle.std.specs.Prelude.{◌≡◌, ◌<◌, ◌≤◌, ◌^◌, ℕ, List, [], ◌∷◌, ◌++◌, length, Option, Some, None}
-use Rattle.arch_base.specs.declared.ids.Id20.{Id20}
+use Rattle.arch_base.specs.declared.ids.Form.{Form}
+use Rattle.arch_base.specs.declared.ids.ObjectId.{ObjectId}
 use Rattle.git_objects.specs.declared.entry_kind.EntryKind.{EntryKind}
 use Rattle.mail_reader.specs.StorageTexts.{IsStorageText}
 use Rattle.mail_commits.specs.Entries.{commit_id, entry_bytes, magic}
@@ -25,38 +27,39 @@ abbrev pub AreEpochEntries : List EpochEntry → Type 0
 AreEpochEntries [] = Unit {0}
 AreEpochEntries (e ∷ es) = IsEpochEntry e × AreEpochEntries es
 
--- The bytes of an entry after a parent.
-abbrev pub bytes_after : Option Id20 → EpochEntry → List ℕ
-bytes_after parent e = entry_bytes e.kind e.text e.moment parent
+-- The bytes of an entry in a form, after a parent.
+abbrev pub bytes_after : Form → Option ObjectId → EpochEntry → List ℕ
+bytes_after form parent e = entry_bytes form e.kind e.text e.moment parent
 
 -- The id of its commit.
-abbrev pub commit_after : Option Id20 → EpochEntry → Id20
-commit_after parent e = commit_id e.kind e.text e.moment parent
+abbrev pub commit_after : Form → Option ObjectId → EpochEntry → ObjectId
+commit_after form parent e = commit_id form e.kind e.text e.moment parent
 
 -- The bytes of entries, where each commit's parent is the commit before it.
-abbrev pub chain : Option Id20 → List EpochEntry → List ℕ
-chain parent [] = []
-chain parent (e ∷ es) = bytes_after parent e ++ chain (Some (commit_after parent e)) es
+abbrev pub chain : Form → Option ObjectId → List EpochEntry → List ℕ
+chain form parent [] = []
+chain form parent (e ∷ es) =
+    bytes_after form parent e ++ chain form (Some (commit_after form parent e)) es
 
 -- The id of the last commit of entries, or the parent if there are none.
-abbrev pub last_of : Option Id20 → List EpochEntry → Option Id20
-last_of parent [] = parent
-last_of parent (e ∷ es) = last_of (Some (commit_after parent e)) es
+abbrev pub last_of : Form → Option ObjectId → List EpochEntry → Option ObjectId
+last_of form parent [] = parent
+last_of form parent (e ∷ es) = last_of form (Some (commit_after form parent e)) es
 
--- The bytes of an epoch with these entries; the first commit has no parent.
-abbrev pub epoch_of : List EpochEntry → List ℕ
-epoch_of es = magic ++ chain None es
+-- The bytes of an epoch of a form with these entries; the first commit has no parent.
+abbrev pub epoch_of : Form → List EpochEntry → List ℕ
+epoch_of form es = magic form ++ chain form None es
 
--- Two lists of entries whose epochs have the same bytes, fewer than 2^64, are equal.
+-- Two lists of entries whose epochs of a form have the same bytes, fewer than 2^64, are equal.
 abbrev pub EpochsDiffer : Type 0
 EpochsDiffer =
-    (es fs : List EpochEntry) → AreEpochEntries es → AreEpochEntries fs
-    → length (epoch_of es) < 2 ^ 64
-    → epoch_of es ≡ epoch_of fs → es ≡ fs
+    (form : Form) (es fs : List EpochEntry) → AreEpochEntries es → AreEpochEntries fs
+    → length (epoch_of form es) < 2 ^ 64
+    → epoch_of form es ≡ epoch_of form fs → es ≡ fs
 
--- Bytes determine the first entry that they start with, and the rest after it.
+-- Bytes determine the first entry of a form that they start with, and the rest after it.
 abbrev pub EntriesDiffer : Type 0
 EntriesDiffer =
-    (parent : Option Id20) (e f : EpochEntry) (x y : List ℕ) → IsEpochEntry e → IsEpochEntry f
-    → length (bytes_after parent e ++ x) < 2 ^ 64
-    → bytes_after parent e ++ x ≡ bytes_after parent f ++ y → (e ≡ f) × (x ≡ y)
+    (form : Form) (parent : Option ObjectId) (e f : EpochEntry) (x y : List ℕ)
+    → IsEpochEntry e → IsEpochEntry f → length (bytes_after form parent e ++ x) < 2 ^ 64
+    → bytes_after form parent e ++ x ≡ bytes_after form parent f ++ y → (e ≡ f) × (x ≡ y)

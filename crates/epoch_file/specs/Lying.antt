@@ -1,11 +1,12 @@
 -- Where entries lie in the first bytes of an epoch's file.
 use Rattle.std.specs.Prelude.{◌+◌, ◌≤◌, ℕ, List, [], ◌∷◌}
+use Rattle.arch_base.specs.Ids.{form_of}
+use Rattle.git_objects.specs.Trees.{tree_size}
 use Rattle.epoch_file.specs.declared.entry.Seen.{Seen}
-use Rattle.epoch_file.specs.Sights.{tree_size}
 
--- The offset after the text and the tree of an entry.
+-- The offset after the text and the tree of an entry, whose length goes by the form of its ids.
 abbrev pub tree_end : Seen → ℕ
-tree_end seen = seen.text_at + seen.size + tree_size
+tree_end seen = seen.text_at + seen.size + tree_size (form_of seen.blob)
 
 -- An entry starts at one offset or after it, its text follows, and its tree ends up to another offset.
 pub record EntryLiesIn (from to : ℕ) (seen : Seen) : Type 0 where

@@ -1,6 +1,7 @@
 -- Private: the steps of a walk.
 use Rattle.std.specs.Prelude.{◌≡◌, ◌≢◌, ℕ, ◌+◌, ◌<◌, ◌≤◌, min, Bool, true, false, List, [], ◌∷◌, ◌++◌, length, take, drop, Option, Some, None, Result, Ok, Err}
-use Rattle.arch_base.specs.declared.ids.Id20.{Id20}
+use Rattle.arch_base.specs.declared.ids.Form.{Form}
+use Rattle.arch_base.specs.declared.ids.ObjectId.{ObjectId}
 use Rattle.arch_base.specs.declared.sequence.NoMemory.{NoMemory as NoRoom}
 use Rattle.git_objects.specs.Commits.{IsParent}
 use Rattle.disk_model.specs.declared.refusal.WalkRefusal.{WalkRefusal}
@@ -20,18 +21,18 @@ use Rattle.epoch_file.specs.Windows.{Shows, IsInsidePart}
 abbrev pub left_of : List ℕ → Part → List ℕ
 left_of bytes part = drop part.offset (take part.end bytes)
 
--- The window has all of the entry at the part's offset if there is one; or there is none, after any
--- parent.
-abbrev pub Brings : Part → List ℕ → List ℕ → Result Bool WalkRefusal → Content → Type 0
-Brings part old new (Ok true) k =
+-- The window has all of the entry of a form at the part's offset if there is one; or there is none,
+-- after any parent.
+abbrev pub Brings : Form → Part → List ℕ → List ℕ → Result Bool WalkRefusal → Content → Type 0
+Brings form part old new (Ok true) k =
     Shows (bytes_of (k part.file).seen) part old
     → Shows (bytes_of (k part.file).seen) part new
-    × ((parent : Option Id20) (e : EpochEntry) (rest : List ℕ) → IsEpochEntry e
-    → left_of (bytes_of (k part.file).seen) part ≡ bytes_after parent e ++ rest
-    → length (bytes_after parent e) ≤ length new)
-Brings part old new (Ok false) k = Shows (bytes_of (k part.file).seen) part old
-    → (parent : Option Id20) → LacksEntry parent (left_of (bytes_of (k part.file).seen) part)
-Brings part old new (Err e) k = Unit {0}
+    × ((parent : Option ObjectId) (e : EpochEntry) (rest : List ℕ) → IsEpochEntry e
+    → left_of (bytes_of (k part.file).seen) part ≡ bytes_after form parent e ++ rest
+    → length (bytes_after form parent e) ≤ length new)
+Brings form part old new (Ok false) k = Shows (bytes_of (k part.file).seen) part old
+    → (parent : Option ObjectId) → LacksEntry form parent (left_of (bytes_of (k part.file).seen) part)
+Brings form part old new (Err e) k = Unit {0}
 
 -- A window that showed a part of a file still shows it.
 abbrev pub KeepsShown : Part → List ℕ → List ℕ → Content → Type 0
@@ -42,10 +43,10 @@ KeepsShown part old new k = Shows (bytes_of (k part.file).seen) part old
 pub record Walked (bytes : List ℕ) (s : State) : Type 0 where
   pub entries : List EpochEntry
   pub valid : AreEpochEntries entries
-  pub spelled : take s.part.end bytes ≡ epoch_of entries ++ left_of bytes s.part
-  pub offset : s.part.offset ≡ 8 + length (chain None entries)
-  pub parent : s.parent ≡ last_of None entries
-  pub seen : s.seen ≡ seen_from 8 None entries
+  pub spelled : take s.part.end bytes ≡ epoch_of s.form entries ++ left_of bytes s.part
+  pub offset : s.part.offset ≡ 8 + length (chain s.form None entries)
+  pub parent : s.parent ≡ last_of s.form None entries
+  pub seen : s.seen ≡ seen_from s.form 8 None entries
   pub shows : Shows bytes s.part s.window
 
 -- The state of a walk after an entry that was found, with its length.
@@ -55,13 +56,16 @@ next_state s found = record {
   window = drop found.1 s.window;
   parent = Some found.0.commit;
   seen = s.seen ++ found.0 ∷ [];
+  form = s.form;
 }
 
 -- The entry at the front of the window is taken, or there is none.
 abbrev pub TakesEntry : State → State → Result Bool NoRoom → Type 0
-TakesEntry old new (Ok true) = (found : Seen × ℕ) × IsEntryRead old.part.offset old.parent old.window found
+TakesEntry old new (Ok true) = (found : Seen × ℕ)
+    × IsEntryRead old.form old.part.offset old.parent old.window found
     × (new ≡ next_state old found)
-TakesEntry old new (Ok false) = (IsParent old.parent → LacksEntry old.parent old.window) × (new ≡ old)
+TakesEntry old new (Ok false) =
+    (IsParent old.form old.parent → LacksEntry old.form old.parent old.window) × (new ≡ old)
 TakesEntry old new (Err e) = Unit {0}
 
 -- A turn of a walk finds one more entry, or that there is none.
@@ -69,7 +73,7 @@ abbrev pub WalkTurns : State → State → Result Bool WalkRefusal → Content �
 WalkTurns old new (Ok true) k = Walked (bytes_of (k old.part.file).seen) old
     → Walked (bytes_of (k old.part.file).seen) new
 WalkTurns old new (Ok false) k = Walked (bytes_of (k old.part.file).seen) old
-    → LacksEntry old.parent (left_of (bytes_of (k old.part.file).seen) old.part)
+    → LacksEntry old.form old.parent (left_of (bytes_of (k old.part.file).seen) old.part)
 WalkTurns old new (Err e) k = Unit {0}
 
 -- The part that is walked keeps its file and its end.
@@ -85,28 +89,29 @@ WalkMoves old new (Ok true) = (old.part.offset < new.part.offset) × IsInsidePar
 WalkMoves old new (Ok false) = new.part.offset ≡ old.part.offset
 WalkMoves old new (Err e) = Unit {0}
 
--- A walk over the first n bytes of a file starts after the magic, or finds that it isn't there.
-abbrev pub BeginsWalk : ℕ → List ℕ → Result (Option State) WalkRefusal → Type 0
-BeginsWalk n bytes (Ok None) = LacksMagic n bytes
-BeginsWalk n bytes (Ok (Some s)) = Walked bytes s × (s.part.end ≡ min n (length bytes))
-BeginsWalk n bytes (Err e) = Unit {0}
+-- A walk over the first n bytes of a file starts after the magic of a form, or finds that it isn't
+-- there.
+abbrev pub BeginsWalk : Form → ℕ → List ℕ → Result (Option State) WalkRefusal → Type 0
+BeginsWalk form n bytes (Ok None) = LacksMagic form n bytes
+BeginsWalk form n bytes (Ok (Some s)) = Walked bytes s × (s.part.end ≡ min n (length bytes))
+BeginsWalk form n bytes (Err e) = Unit {0}
 
 -- The same for n bytes that the file has.
-abbrev pub BeginsAt : ℕ → List ℕ → Result (Option State) WalkRefusal → Type 0
-BeginsAt n bytes (Ok None) = n ≤ length bytes → LacksMagic n bytes
-BeginsAt n bytes (Ok (Some s)) = n ≤ length bytes → Walked bytes s × (s.part.end ≡ n)
-BeginsAt n bytes (Err e) = Unit {0}
+abbrev pub BeginsAt : Form → ℕ → List ℕ → Result (Option State) WalkRefusal → Type 0
+BeginsAt form n bytes (Ok None) = n ≤ length bytes → LacksMagic form n bytes
+BeginsAt form n bytes (Ok (Some s)) = n ≤ length bytes → Walked bytes s × (s.part.end ≡ n)
+BeginsAt form n bytes (Err e) = Unit {0}
 
--- A window starts with the magic, or it doesn't.
-abbrev pub HasMagic : List ℕ → Bool → Type 0
-HasMagic window true = (rest : List ℕ) × (window ≡ magic ++ rest)
-HasMagic window false = (rest : List ℕ) → window ≢ magic ++ rest
+-- A window starts with the magic of a form, or it doesn't.
+abbrev pub HasMagic : Form → List ℕ → Bool → Type 0
+HasMagic form window true = (rest : List ℕ) × (window ≡ magic form ++ rest)
+HasMagic form window false = (rest : List ℕ) → window ≢ magic form ++ rest
 
--- A walk starts after the magic at the front of a window, or the magic isn't there.
-abbrev pub BeginsAfterMagic : Part → List ℕ → Option State → Type 0
-BeginsAfterMagic part window None = (rest : List ℕ) → window ≢ magic ++ rest
-BeginsAfterMagic part window (Some s) =
-    (rest : List ℕ) × (window ≡ magic ++ rest) × (s ≡ record {
+-- A walk starts after the magic of a form at the front of a window, or the magic isn't there.
+abbrev pub BeginsAfterMagic : Form → Part → List ℕ → Option State → Type 0
+BeginsAfterMagic form part window None = (rest : List ℕ) → window ≢ magic form ++ rest
+BeginsAfterMagic form part window (Some s) =
+    (rest : List ℕ) × (window ≡ magic form ++ rest) × (s ≡ record {
       part = record {
         file = part.file;
         offset = 8;
@@ -115,14 +120,15 @@ BeginsAfterMagic part window (Some s) =
       window = rest;
       parent = None;
       seen = [];
+      form = form;
     })
 
--- A walk starts in a part of this file, with at most n bytes, and has found no entry yet.
-abbrev pub BeginsIn : FileName → ℕ → Result (Option State) WalkRefusal → Type 0
-BeginsIn file n (Ok None) = Unit {0}
-BeginsIn file n (Ok (Some s)) = (s.part.file ≡ file) × (s.part.end ≤ n)
-    × IsInsidePart s.part s.window × (s.seen ≡ [])
-BeginsIn file n (Err e) = Unit {0}
+-- A walk in a form starts in a part of this file, with at most n bytes, and has found no entry yet.
+abbrev pub BeginsIn : Form → FileName → ℕ → Result (Option State) WalkRefusal → Type 0
+BeginsIn form file n (Ok None) = Unit {0}
+BeginsIn form file n (Ok (Some s)) = (s.part.file ≡ file) × (s.part.end ≤ n)
+    × IsInsidePart s.part s.window × (s.seen ≡ []) × (s.form ≡ form)
+BeginsIn form file n (Err e) = Unit {0}
 
 -- Another entry is needed; or none is, since all n bytes are walked and there is an entry.
 abbrev pub WantsEntry : State → ℕ → Bool → Type 0
@@ -136,4 +142,5 @@ KeepsWalked old new k = Walked (bytes_of (k old.part.file).seen) old
 
 -- The result of a walk over the first n bytes, continued from a state.
 abbrev pub WalkGoesOn : ℕ → List ℕ → State → Result (List Seen) WalkRefusal → Type 0
-WalkGoesOn n bytes s result = Walked bytes s → s.part.end ≡ min n (length bytes) → WalksEpoch n bytes result
+WalkGoesOn n bytes s result = Walked bytes s → s.part.end ≡ min n (length bytes)
+    → WalksEpoch s.form n bytes result

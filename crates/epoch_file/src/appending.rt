@@ -12,9 +12,9 @@ ghost use Rattle.epoch_file.specs.Appending.{appended, entry_of, front_at, writt
 
 use crate::entry::{NewEntry, Written};
 use crate::refusal::StoreRefusal;
-use arch_base::{Bytes, NoMemory};
+use arch_base::{Bytes, Form, NoMemory};
 use disk_model::{Disk, FileName};
-use mail_commits::{EntryIds, MAGIC, push_entry};
+use mail_commits::{EntryIds, EntryText, magic, push_entry};
 use std::alloc::Global;
 
 /// The greatest number of bytes that one write takes. More bytes find no room in memory.
@@ -34,7 +34,7 @@ pub fn append_entry<D: Disk>(
     at: u64,
     entry: &NewEntry<'_>,
 ) -> Result<Written, StoreRefusal>
-    requires ids { entry.now.ids ≡ text_ids_of entry.now.text.now }
+    requires ids { entry.now.ids ≡ text_ids_of entry.now.form entry.now.text.now }
     requires moment { entry.now.moment ≤ last_moment }
     requires inside { WhereTold (IsAtMostLength file at) (D.content disk.old) }
     requires offset { at < 2 ^ 62 }
@@ -70,32 +70,30 @@ pub fn entry_piece(
     at: u64,
     entry: &NewEntry<'_>,
 ) -> Result<(Bytes, EntryIds), NoMemory>
-    requires ids { entry.now.ids ≡ text_ids_of entry.now.text.now }
+    requires ids { entry.now.ids ≡ text_ids_of entry.now.form entry.now.text.now }
     ensures piece { IfOk result (λ made. made.0 ≡ appended at entry.now) }
-    ensures blob { IfOk result (λ made. made.1.blob ≡ blob_id_of entry.now.text.now) }
+    ensures blob { IfOk result (λ made. made.1.blob ≡ blob_id_of entry.now.form entry.now.text.now) }
     ensures commit { IfOk result (λ made.
-        made.1.commit ≡ commit_after entry.now.parent (entry_of entry.now)) }
+        made.1.commit ≡ commit_after entry.now.form entry.now.parent (entry_of entry.now)) }
 {
-    let mut piece = front(alloc, at)?;
-    let ids = push_entry(
-        alloc,
-        entry.kind,
-        entry.text,
-        &entry.ids.blob,
-        entry.moment,
-        entry.parent,
-        &mut piece,
-    )?;
+    let mut piece = front(alloc, at, entry.form)?;
+    let text = EntryText {
+        form: entry.form,
+        kind: entry.kind,
+        text: entry.text,
+        moment: entry.moment,
+    };
+    let ids = push_entry(alloc, &text, &entry.ids.blob, entry.parent, &mut piece)?;
     Ok((piece, ids))
 }
 
-/// Returns the bytes before an entry at an offset: the magic at offset 0, and otherwise none.
-fn front(alloc: Global, at: u64) -> Result<Bytes, NoMemory>
-    ensures { IfOk result (λ made. made ≡ front_at at) }
+/// Returns the bytes before an entry of a form at an offset: the magic at offset 0, and otherwise none.
+fn front(alloc: Global, at: u64, form: Form) -> Result<Bytes, NoMemory>
+    ensures { IfOk result (λ made. made ≡ front_at form at) }
 {
     let mut front = Bytes::new(alloc);
     if at == 0 {
-        front.push_slice(&MAGIC)?;
+        front.push_slice(&magic(form))?;
     }
     Ok(front)
 }

@@ -1,6 +1,6 @@
 //! The entries of an epoch's file, as they are written and as they are read.
 //! Pure.
-use arch_base::{Bytes, ObjectId, Sequence};
+use arch_base::{Bytes, Form, ObjectId, Sequence};
 use git_objects::EntryKind;
 use mail_commits::TextIds;
 
@@ -17,6 +17,8 @@ pub struct NewEntry<'a> {
     pub moment: u64,
     /// The epoch's commit before it, none for the first.
     pub parent: Option<ObjectId>,
+    /// The form of its ids.
+    pub form: Form,
 }
 
 /// An entry as it was read from an epoch's file.

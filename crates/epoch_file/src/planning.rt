@@ -1,20 +1,21 @@
 //! Plans how an epoch's file is written anew without some of its entries.
 //! Reads the disk.
 ghost use Rattle.std.specs.Prelude.{◌≡◌, ◌≤◌, ◌+◌, ℕ, true, None, Err, is_some, length, IfOk, IfErr, OnOk, OnErr};
-ghost use Rattle.arch_base.specs.declared.ids.Id20.{Id20};
+ghost use Rattle.arch_base.specs.declared.ids.ObjectId.{ObjectId};
+ghost use Rattle.arch_base.specs.Ids.{form_of};
 ghost use Rattle.arch_base.specs.Counts.{RoseIf};
 ghost use Rattle.disk_model.specs.Disk.{Image, BothTold, WhereTold, Unchanged};
 ghost use Rattle.disk_model.specs.Moments.{LeavesOnly};
 ghost use Rattle.epoch_file.specs.Lying.{EntryLiesIn};
 ghost use Rattle.epoch_file.specs.Planning.{Checks, CommitsAnew, CopiesEntry, FinishesPlan, FinishesIn, IsAnewOf, IsMoved, IsOfEpoch, IsPlannedIn, KeepsIn, KeepsNext, LeftOutIn, LeavesNext, TellsLack};
-ghost use Rattle.epoch_file.specs.Sights.{tree_size};
+ghost use Rattle.git_objects.specs.Trees.{tree_size};
 
 use crate::entry::Seen;
-use crate::sight::TREE_LEN;
-use arch_base::{Bytes, NoMemory, ObjectId};
+use crate::sight::tree_len;
+use arch_base::{Bytes, Form, NoMemory, ObjectId};
 use disk_model::{Disk, FileKind, FileName, WalkRefusal};
 use git_objects::blob_id;
-use mail_commits::entry_objects;
+use mail_commits::{EntryText, entry_objects};
 use root_change::{PartPlan, Target};
 use std::alloc::Global;
 use std::marker::Model;
@@ -30,6 +31,7 @@ pub struct EpochPlan {
     changed: Option<PartPlan>,
     end: u64,
     parent: Option<ObjectId>,
+    form: Form,
 }
 
 impl Model for EpochPlan {
@@ -42,21 +44,23 @@ impl Model for EpochPlan {
       changed = p.changed;
       end_ = p.end;
       parent = p.parent;
+      form = p.form;
     } };
 
     ghost invariant = { λ p. IsOfEpoch p.file p.changed };
 }
 
 impl EpochPlan {
-    /// Returns the plan of an epoch's file before its first entry. Allocates nothing.
-    pub fn new(file: FileName) -> EpochPlan
-        ensures { result ≡ record { file = file; changed = None; end_ = 8; parent = None } }
+    /// Returns the plan of the file of an epoch of a form before its first entry. Allocates nothing.
+    pub fn new(file: FileName, form: Form) -> EpochPlan
+        ensures { result ≡ record { file = file; changed = None; end_ = 8; parent = None; form = form } }
     {
         EpochPlan {
             file,
             changed: None,
             end: 8,
             parent: None,
+            form,
         }
     }
 
@@ -82,9 +86,10 @@ impl EpochPlan {
         ensures kept { WhereTold (KeepsNext self.old seen.now self.new result) (D.content disk.old) }
         ensures checked { WhereTold (Checks self.old seen.now result) (D.content disk.old) }
         // Also where the disk doesn't tell its content, and before an entry is left out.
-        ensures damage { IfErr result (TellsLack self.old.file seen.now (D.content disk.old)) }
+        ensures damage { IfErr result (TellsLack self.old.form self.old.file seen.now (D.content disk.old)) }
         ensures file { self.new.file ≡ self.old.file }
-        ensures moved { IfOk result (λ made. (at : ℕ) × (commit : Id20)
+        ensures form { self.new.form ≡ self.old.form }
+        ensures moved { IfOk result (λ made. (at : ℕ) × (commit : ObjectId)
             × IsMoved seen.now at commit made) }
         ensures going { OnOk result (is_some self.new.changed ≡ is_some self.old.changed) }
         ensures some { OnOk result (is_some self.new.parent ≡ true) }
@@ -102,7 +107,7 @@ impl EpochPlan {
                 Ok(moved(seen, seen.at, seen.commit)?)
             }
             Some(plan) => {
-                let commit = new_commit(alloc, disk, self.file, seen, self.parent)?;
+                let commit = new_commit(alloc, disk, self.file, seen, self.parent, self.form)?;
                 copy_entry(plan, self.file, seen, commit.bytes.as_slice())?;
                 let made = moved(seen, self.end, commit.id)?;
                 self.end = plan.count();
@@ -118,6 +123,7 @@ impl EpochPlan {
     pub fn leave_out(&mut self, alloc: Global, seen: &Seen) -> Result<(), NoMemory>
         ensures left { OnOk result (LeavesNext self.old seen.now self.new) }
         ensures file { self.new.file ≡ self.old.file }
+        ensures form { self.new.form ≡ self.old.form }
         ensures changes { OnOk result (is_some self.new.changed ≡ true) }
         ensures lies { OnOk result ((from : ℕ) (most : ℕ) → EntryLiesIn from most seen.now
             → IsPlannedIn most self.old → LeftOutIn from most self.old seen.now self.new) }
@@ -147,6 +153,7 @@ impl EpochPlan {
             changed,
             end: _,
             parent,
+            form: _,
         } = self;
         if parent.is_some() {
             return changed;
@@ -184,7 +191,7 @@ struct NewCommit {
     id: ObjectId,
 }
 
-/// Returns the commit that an entry of a file gets after a parent.
+/// Returns the commit that an entry of a file gets in a form after a parent.
 ///
 /// `Damaged` at the entry's offset if the bytes of its text have another blob id.
 fn new_commit<D: Disk>(
@@ -193,9 +200,10 @@ fn new_commit<D: Disk>(
     file: FileName,
     seen: &Seen,
     parent: Option<ObjectId>,
+    form: Form,
 ) -> Result<NewCommit, WalkRefusal>
-    ensures commit { WhereTold (CommitsAnew file seen.now parent result) (D.content disk.old) }
-    ensures damage { IfErr result (TellsLack file seen.now (D.content disk.old)) }
+    ensures commit { WhereTold (CommitsAnew form file seen.now parent result) (D.content disk.old) }
+    ensures damage { IfErr result (TellsLack form file seen.now (D.content disk.old)) }
     ensures same { BothTold Unchanged (D.content disk.old) (D.content disk.new) }
     ensures crash { LeavesOnly D.Disk disk.old disk.new (Image (D.content disk.old)) }
     ensures fewest { D.reads disk.old ≤ D.reads disk.new }
@@ -203,7 +211,7 @@ fn new_commit<D: Disk>(
         (D.faults disk.new) }
 {
     let mut room = room_for(alloc, seen.size)?;
-    commit_read(alloc, disk, file, seen, parent, &mut room)
+    commit_read(alloc, disk, file, seen, parent, form, &mut room)
 }
 
 /// Returns that commit. Reads the text into `room`, which has its size.
@@ -213,11 +221,12 @@ fn commit_read<D: Disk>(
     file: FileName,
     seen: &Seen,
     parent: Option<ObjectId>,
+    form: Form,
     room: &mut [u8],
 ) -> Result<NewCommit, WalkRefusal>
     requires room { length room.old ≡ seen.now.size }
-    ensures commit { WhereTold (CommitsAnew file seen.now parent result) (D.content disk.old) }
-    ensures damage { IfErr result (TellsLack file seen.now (D.content disk.old)) }
+    ensures commit { WhereTold (CommitsAnew form file seen.now parent result) (D.content disk.old) }
+    ensures damage { IfErr result (TellsLack form file seen.now (D.content disk.old)) }
     ensures same { BothTold Unchanged (D.content disk.old) (D.content disk.new) }
     ensures crash { LeavesOnly D.Disk disk.old disk.new (Image (D.content disk.old)) }
     ensures fewest { D.reads disk.old ≤ D.reads disk.new }
@@ -225,10 +234,16 @@ fn commit_read<D: Disk>(
         (D.faults disk.new) }
 {
     let count = disk.read(file, seen.text_at, room)?;
-    if count < room.len() || blob_id(room) != seen.blob {
+    if count < room.len() || blob_id(room, form) != seen.blob {
         return Err(WalkRefusal::Damaged { at: seen.at });
     }
-    let objects = entry_objects(alloc, seen.kind, room, &seen.blob, seen.moment, parent)?;
+    let text = EntryText {
+        form,
+        kind: seen.kind,
+        text: room,
+        moment: seen.moment,
+    };
+    let objects = entry_objects(alloc, &text, &seen.blob, parent)?;
     Ok(NewCommit {
         bytes: objects.commit,
         id: objects.ids.commit,
@@ -247,7 +262,7 @@ fn room_for(alloc: Global, size: u64) -> Result<Vec<u8>, NoMemory>
 /// `NoMemory` if that is no number of 64 bits, which no entry has.
 fn copied_size(seen: &Seen) -> Result<u64, NoMemory>
     ensures { IfOk result (λ count.
-        seen.now.at + count ≡ seen.now.text_at + seen.now.size + tree_size) }
+        seen.now.at + count ≡ seen.now.text_at + seen.now.size + tree_size (form_of seen.now.blob)) }
 {
     let Some(front) = seen.text_at.checked_sub(seen.at) else {
         return Err(NoMemory);
@@ -255,7 +270,7 @@ fn copied_size(seen: &Seen) -> Result<u64, NoMemory>
     let Some(blob) = front.checked_add(seen.size) else {
         return Err(NoMemory);
     };
-    match blob.checked_add(TREE_LEN as u64) {
+    match blob.checked_add(tree_len(seen.blob.form()) as u64) {
         Some(count) => Ok(count),
         None => Err(NoMemory),
     }

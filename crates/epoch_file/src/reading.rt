@@ -2,7 +2,8 @@
 //! Allocates.
 ghost use Rattle.std.specs.Prelude.{◌≡◌, ◌+◌, ◌-◌, ◌<◌, ◌≤◌, ◌^◌, ◌++◌, ℕ, List, Some, None, length, take, IfSome, IfOk, IsTrue, ◌↔◌, MatchOption};
 ghost use Rattle.arch_base.specs.Ids.{IsObjectId};
-ghost use Rattle.arch_base.specs.declared.ids.Id20.{Id20};
+ghost use Rattle.arch_base.specs.declared.ids.Form.{Form as IdForm};
+ghost use Rattle.arch_base.specs.declared.ids.ObjectId.{ObjectId};
 ghost use Rattle.git_objects.specs.declared.commits.Commit.{Commit as CommitRecord};
 ghost use Rattle.git_objects.specs.declared.entry_kind.EntryKind.{EntryKind};
 ghost use Rattle.git_objects.specs.Commits.{IsCommit, commit_content};
@@ -14,9 +15,9 @@ ghost use Rattle.epoch_file.specs.Reading.{IsParted, HasParts, PartsAgain, Respe
 
 use crate::entry::Seen;
 use crate::sight::after;
-use arch_base::{Bytes, LAST_MOMENT, NoMemory, ObjectId};
+use arch_base::{Bytes, Form, LAST_MOMENT, NoMemory, ObjectId};
 use git_objects::{EntryKind, Object, blob_id, committed_at, read_object};
-use mail_commits::{EntryIds, entry_objects};
+use mail_commits::{EntryIds, EntryText, entry_objects};
 use mail_reader::{content_id, stored_id};
 use std::alloc::Global;
 
@@ -35,17 +36,20 @@ pub(crate) struct Parts<'a> {
     commit: &'a [u8],
     /// The number of bytes of the three objects.
     size: usize,
+    /// The form of their ids.
+    form: Form,
 }
 
-/// Reads the blob, tree and commit that bytes start with.
-fn read_parts(bytes: &[u8]) -> Option<Parts<'_>>
+/// Reads the blob, tree and commit of a form that bytes start with.
+fn read_parts(bytes: &[u8], form: Form) -> Option<Parts<'_>>
     ensures found { IfSome result (IsParted bytes.now) }
-    ensures again { PartsAgain bytes.now result }
+    ensures form { IfSome result (λ parts. parts.form ≡ form) }
+    ensures again { PartsAgain form bytes.now result }
 {
-    let (text, blob) = blob_ahead(bytes)?;
-    let (kind, tree) = tree_ahead(bytes.split_at(blob).1)?;
+    let (text, blob) = blob_ahead(bytes, form)?;
+    let (kind, tree) = tree_ahead(bytes.split_at(blob).1, form)?;
     let at = blob + tree;
-    let (commit, len) = commit_ahead(bytes.split_at(at).1)?;
+    let (commit, len) = commit_ahead(bytes.split_at(at).1, form)?;
     Some(Parts {
         kind,
         text,
@@ -53,11 +57,12 @@ fn read_parts(bytes: &[u8]) -> Option<Parts<'_>>
         blob,
         commit,
         size: at + len,
+        form,
     })
 }
 
 /// Reads the content of the blob that bytes start with, and the blob's length.
-fn blob_ahead(bytes: &[u8]) -> Option<(&[u8], usize)>
+fn blob_ahead(bytes: &[u8], form: Form) -> Option<(&[u8], usize)>
     ensures inside { IfSome result (λ found. (length found.0.now ≤ found.1)
         × (found.1 ≤ length bytes.now)) }
     ensures spelled { IfSome result (λ found.
@@ -67,35 +72,35 @@ fn blob_ahead(bytes: &[u8]) -> Option<(&[u8], usize)>
         → MatchOption result ⊥ (λ found. (found.0.now ≡ content)
         × (found.1 ≡ length (blob_spelling content))) }
 {
-    match read_object(bytes)? {
+    match read_object(bytes, form)? {
         (Object::Blob(content), len) => Some((content, len)),
         _ => None,
     }
 }
 
-/// Reads the kind of entry in the tree that bytes start with, and the tree's length.
-fn tree_ahead(bytes: &[u8]) -> Option<(EntryKind, usize)>
+/// Reads the kind of entry in the tree of a form that bytes start with, and the tree's length.
+fn tree_ahead(bytes: &[u8], form: Form) -> Option<(EntryKind, usize)>
     ensures inside { IfSome result (λ found. found.1 ≤ length bytes.now) }
-    ensures again { (kind : EntryKind) (id : Id20) (rest : List ℕ) → IsObjectId id
+    ensures again { (kind : EntryKind) (id : ObjectId) (rest : List ℕ) → IsObjectId form id
         → bytes.now ≡ tree_spelling kind id ++ rest
         → MatchOption result ⊥ (λ found. (found.0 ≡ kind)
         × (found.1 ≡ length (tree_spelling kind id))) }
 {
-    match read_object(bytes)? {
+    match read_object(bytes, form)? {
         (Object::Tree { kind, id: _ }, len) => Some((kind, len)),
         _ => None,
     }
 }
 
 /// Reads the content of the commit that bytes start with, and the commit's length.
-fn commit_ahead(bytes: &[u8]) -> Option<(&[u8], usize)>
+fn commit_ahead(bytes: &[u8], form: Form) -> Option<(&[u8], usize)>
     ensures inside { IfSome result (λ found. found.1 ≤ length bytes.now) }
     ensures again { (content rest : List ℕ) → HasSize content
         → bytes.now ≡ spelling (CommitOf content) ++ rest
         → MatchOption result ⊥ (λ found. (found.0.now ≡ content)
         × (found.1 ≡ length (spelling (CommitOf content)))) }
 {
-    match read_object(bytes)? {
+    match read_object(bytes, form)? {
         (Object::Commit(content), len) => Some((content, len)),
         _ => None,
     }
@@ -106,7 +111,7 @@ fn commit_ahead(bytes: &[u8]) -> Option<(&[u8], usize)>
 /// The result is `None` if the content is no commit's, or the moment is after the last.
 fn moment_of(content: &[u8]) -> Option<u64>
     ensures bound { IfSome result (λ moment. moment ≤ last_moment) }
-    ensures again { (c : CommitRecord) → IsCommit c → content.now ≡ commit_content c
+    ensures again { (of : IdForm) (c : CommitRecord) → IsCommit of c → content.now ≡ commit_content c
         → c.committed ≤ last_moment → result ≡ Some c.committed }
 {
     let moment = committed_at(content)?;
@@ -120,15 +125,14 @@ fn moment_of(content: &[u8]) -> Option<u64>
 fn respell(
     alloc: Global,
     bytes: &[u8],
-    kind: EntryKind,
-    text: &[u8],
-    moment: u64,
+    entry: &EntryText<'_>,
     parent: Option<ObjectId>,
 ) -> Result<Option<EntryIds>, NoMemory>
-    ensures { Respells bytes.now kind text.now moment parent result }
+    ensures { Respells entry.now.form bytes.now entry.now.kind entry.now.text.now entry.now.moment parent
+        result }
 {
-    let objects = entry_objects(alloc, kind, text, &blob_id(text), moment, parent)?;
-    if !is_joined(bytes, &objects.tree, objects.commit.as_slice()) {
+    let objects = entry_objects(alloc, entry, &blob_id(entry.text, entry.form), parent)?;
+    if !is_joined(bytes, objects.tree.as_slice(), objects.commit.as_slice()) {
         return Ok(None);
     }
     Ok(Some(objects.ids))
@@ -144,7 +148,7 @@ fn is_joined(bytes: &[u8], first: &[u8], second: &[u8]) -> bool
     }
 }
 
-/// Reads the entry after a parent that bytes start with, and returns it and its length.
+/// Reads the entry of a form after a parent that bytes start with, and returns it and its length.
 ///
 /// The bytes are at `offset` in their file. The result is `None` if they don't start with
 /// such an entry.
@@ -153,11 +157,12 @@ pub(crate) fn read_entry(
     offset: u64,
     bytes: &[u8],
     parent: Option<ObjectId>,
+    form: Form,
 ) -> Result<Option<(Seen, usize)>, NoMemory>
     requires { offset + length bytes.now < 2 ^ 64 }
-    ensures { ReadsEntry offset parent bytes.now result }
+    ensures { ReadsEntry form offset parent bytes.now result }
 {
-    match read_parts(bytes) {
+    match read_parts(bytes, form) {
         Some(parts) => read_in_parts(alloc, offset, bytes, parent, &parts),
         None => Ok(None),
     }
@@ -173,8 +178,9 @@ fn read_in_parts(
 ) -> Result<Option<(Seen, usize)>, NoMemory>
     requires room { offset + length bytes.now < 2 ^ 64 }
     requires parted { IsParted bytes.now parts.now }
-    requires again { PartsAgain bytes.now (Some parts.now) }
-    ensures { ReadsWhere (λ e. HasParts parent e parts.now) offset parent bytes.now result }
+    requires again { PartsAgain parts.now.form bytes.now (Some parts.now) }
+    ensures { ReadsWhere parts.now.form (λ e. HasParts parts.now.form parent e parts.now)
+        offset parent bytes.now result }
 {
     match moment_of(parts.commit) {
         Some(moment) => read_at_moment(alloc, offset, bytes, parent, parts, moment),
@@ -193,9 +199,9 @@ fn read_at_moment(
 ) -> Result<Option<(Seen, usize)>, NoMemory>
     requires room { offset + length bytes.now < 2 ^ 64 }
     requires parted { IsParted bytes.now parts.now }
-    requires again { PartsAgain bytes.now (Some parts.now) }
+    requires again { PartsAgain parts.now.form bytes.now (Some parts.now) }
     requires moment { moment ≤ last_moment }
-    ensures { ReadsWhere (λ e. HasParts parent e parts.now
+    ensures { ReadsWhere parts.now.form (λ e. HasParts parts.now.form parent e parts.now
         × (moment ≡ e.moment)) offset parent bytes.now result }
 {
     match stored_id(parts.text) {
@@ -216,15 +222,21 @@ fn read_with_id(
 ) -> Result<Option<(Seen, usize)>, NoMemory>
     requires room { offset + length bytes.now < 2 ^ 64 }
     requires parted { IsParted bytes.now parts.now }
-    requires again { PartsAgain bytes.now (Some parts.now) }
+    requires again { PartsAgain parts.now.form bytes.now (Some parts.now) }
     requires moment { moment ≤ last_moment }
     requires stored { IsStorageText parts.now.text.now }
     requires id { own_id_of parts.now.text.now ≡ Some id.now }
-    ensures { ReadsWhere (λ e. HasParts parent e parts.now
+    ensures { ReadsWhere parts.now.form (λ e. HasParts parts.now.form parent e parts.now
         × (moment ≡ e.moment)) offset parent bytes.now result }
 {
     let objects = bytes.split_at(parts.size).0.split_at(parts.blob).1;
-    match respell(alloc, objects, parts.kind, parts.text, moment, parent)? {
+    let entry = EntryText {
+        form: parts.form,
+        kind: parts.kind,
+        text: parts.text,
+        moment,
+    };
+    match respell(alloc, objects, &entry, parent)? {
         Some(ids) => Ok(Some((seen_of(alloc, offset, parts, moment, &ids, id)?, parts.size))),
         None => Ok(None),
     }

@@ -14,7 +14,7 @@ ghost use Rattle.epoch_file.specs.Planning.{is_among as among, IsAnewOf, IsOfEpo
 use crate::entry::{Seen, SeenList};
 use crate::planning::EpochPlan;
 use crate::walking::walk;
-use arch_base::{NoMemory, Numbers};
+use arch_base::{Form, NoMemory, Numbers};
 use disk_model::{Disk, FileKind, FileName, WalkRefusal};
 use root_change::{PartPlan, Target, put_sources};
 use std::alloc::Global;
@@ -37,6 +37,7 @@ fn take_entry<D: Disk>(
     ensures taken { WhereTold (TakesNext plan.old entry.now leaves plan.new result)
         (D.content disk.old) }
     ensures file { plan.new.file ≡ plan.old.file }
+    ensures form { plan.new.form ≡ plan.old.form }
     ensures same { BothTold Unchanged (D.content disk.old) (D.content disk.new) }
     ensures crash { LeavesOnly D.Disk disk.old disk.new (Image (D.content disk.old)) }
     ensures cause { RoseIf (result ≡ Err WalkRefusal.DiskFault) (D.faults disk.old)
@@ -50,22 +51,23 @@ fn take_entry<D: Disk>(
     Ok(())
 }
 
-/// Plans an epoch's file without the entries that have these indexes.
+/// Plans the file of an epoch of a form without the entries that have these indexes.
 fn plan_entries<D: Disk>(
     alloc: Global,
     disk: &mut D,
     from: FileName,
     seen: &SeenList,
     gone: &Numbers,
+    form: Form,
 ) -> Result<Option<PartPlan>, WalkRefusal>
     ensures of { IfOk result (IsOfEpoch from) }
-    ensures planned { WhereTold (PlansWhole from seen.now gone.now result) (D.content disk.old) }
+    ensures planned { WhereTold (PlansWhole form from seen.now gone.now result) (D.content disk.old) }
     ensures same { BothTold Unchanged (D.content disk.old) (D.content disk.new) }
     ensures crash { LeavesOnly D.Disk disk.old disk.new (Image (D.content disk.old)) }
     ensures cause { RoseIf (result ≡ Err WalkRefusal.DiskFault) (D.faults disk.old)
         (D.faults disk.new) }
 {
-    let mut plan = EpochPlan::new(from);
+    let mut plan = EpochPlan::new(from, form);
     let mut index = 0;
     for entry in seen.as_slice() {
         let leaves = is_among(gone, index);
@@ -88,8 +90,8 @@ fn whole_copy(alloc: Global, from: FileName, count: u64) -> Result<PartPlan, NoM
     Ok(plan)
 }
 
-/// Plans a copy of the first `count` bytes of an epoch's file without the entries that have these
-/// indexes.
+/// Plans a copy of the first `count` bytes of the file of an epoch of a form without the entries that
+/// have these indexes.
 fn plan_file<D: Disk>(
     alloc: Global,
     disk: &mut D,
@@ -97,24 +99,25 @@ fn plan_file<D: Disk>(
     count: u64,
     seen: &SeenList,
     gone: &Numbers,
+    form: Form,
 ) -> Result<PartPlan, WalkRefusal>
     ensures anew { IfOk result (IsAnewOf from) }
-    ensures planned { WhereTold (PlansFile from count seen.now gone.now result)
+    ensures planned { WhereTold (PlansFile form from count seen.now gone.now result)
         (D.content disk.old) }
     ensures same { BothTold Unchanged (D.content disk.old) (D.content disk.new) }
     ensures crash { LeavesOnly D.Disk disk.old disk.new (Image (D.content disk.old)) }
     ensures cause { RoseIf (result ≡ Err WalkRefusal.DiskFault) (D.faults disk.old)
         (D.faults disk.new) }
 {
-    match plan_entries(alloc, disk, from, seen, gone) {
+    match plan_entries(alloc, disk, from, seen, gone, form) {
         Err(refusal) => Err(refusal),
         Ok(Some(plan)) => Ok(plan),
         Ok(None) => Ok(whole_copy(alloc, from, count)?),
     }
 }
 
-/// Copies the first `count` bytes of an epoch's file to another file, without the entries that have
-/// these indexes, which rise. Returns the number of bytes there.
+/// Copies the first `count` bytes of the file of an epoch of a form to another file, without the entries
+/// that have these indexes, which rise. Returns the number of bytes there.
 ///
 /// The commits after the first entry that is left out are made anew. The other file isn't there
 /// before; it isn't made if no entry stays. Reads the epoch first: it is `Damaged` where `walk` says
@@ -129,17 +132,18 @@ pub fn rewrite<D: Disk>(
     count: u64,
     to: FileName,
     gone: &Numbers,
+    form: Form,
 ) -> Result<u64, WalkRefusal>
     requires apart { from ≢ to }
-    ensures rewritten { BothTold (λ k m. RewritesEpoch from count to gone.now k m result) (D.content disk.old)
-        (D.content disk.new) }
+    ensures rewritten { BothTold (λ k m. RewritesEpoch form from count to gone.now k m result)
+        (D.content disk.old) (D.content disk.new) }
     ensures others { BothTold (OtherFilesStay to) (D.content disk.old) (D.content disk.new) }
     ensures crash_beside { (bounds : Bounds) → RespectsBound (bounds to) 0
         → RunsBeside D.Disk bounds disk.old disk.new }
     ensures cause { RoseIf (result ≡ Err WalkRefusal.DiskFault) (D.faults disk.old) (D.faults disk.new) }
 {
-    let seen = walk(alloc, disk, from, count)?;
-    let plan = plan_file(alloc, disk, from, count, &seen, gone)?;
+    let seen = walk(alloc, disk, from, count, form)?;
+    let plan = plan_file(alloc, disk, from, count, &seen, gone, form)?;
     let whole = put_sources(disk, plan.bytes(), plan.sources(), to, 0)?;
     if !whole {
         // The file got shorter after its entries were read.

@@ -2,17 +2,16 @@
 //! Pure.
 ghost use Rattle.std.specs.Prelude.{◌≡◌, ◌+◌, ◌<◌, ◌≤◌, ◌^◌, ◌++◌, ◌∷◌, ℕ, List, Some, length, codes, IfSome, MatchOption, ◌≢◌};
 ghost use Rattle.std.specs.Fmt.{decimal};
+ghost use Rattle.arch_base.specs.declared.ids.Form.{Form as IdForm};
+ghost use Rattle.git_objects.specs.Trees.{tree_size};
 ghost use Rattle.mail_reader.specs.StorageTexts.{max_text_len};
 ghost use Rattle.epoch_file.specs.Sights.{Sees, SeesCommit, SeesAll, IsRoomFor, commit_offset, EndsCommit};
 
-use arch_base::read_decimal;
+use arch_base::{Form, read_decimal};
 use memchr::memchr;
 
 /// The greatest length of a text, in bytes.
 const MAX_TEXT_LEN: u64 = 8_388_800;
-
-/// The length of a tree of one file, in bytes.
-pub(crate) const TREE_LEN: usize = 37;
 
 /// The most bytes that an object's type, its size and the byte after them take.
 const HEAD_LEN: usize = 28;
@@ -28,14 +27,25 @@ pub(crate) enum Sight {
     Whole,
 }
 
-/// Returns how much of an entry the held bytes have, of `left` bytes that they start.
-pub(crate) fn look(held: &[u8], left: u64) -> Sight
-    ensures { Sees held.now left result }
+/// Returns the length of a tree of one file in a form, in bytes: 37 or 49.
+pub(crate) fn tree_len(form: Form) -> usize
+    ensures size { result ≡ tree_size form }
+    ensures most { result ≤ 49 }
+{
+    match form {
+        Form::Sha1 => 37,
+        Form::Sha256 => 49,
+    }
+}
+
+/// Returns how much of an entry of a form the held bytes have, of `left` bytes that they start.
+pub(crate) fn look(held: &[u8], left: u64, form: Form) -> Sight
+    ensures { Sees form held.now left result }
 {
     if is_short(held, left, HEAD_LEN) {
         return Sight::Short;
     }
-    match commit_at(held) {
+    match commit_at(held, form) {
         Some(at) => look_at_commit(held, left, at),
         None => Sight::Lacks,
     }
@@ -48,23 +58,23 @@ fn is_short(held: &[u8], left: u64, count: usize) -> bool
     held.len() < count && (held.len() as u64) < left
 }
 
-/// Returns the offset of an entry's commit, by the size of its blob.
-fn commit_at(held: &[u8]) -> Option<usize>
+/// Returns the offset of the commit of an entry of a form, by the size of its blob.
+fn commit_at(held: &[u8], form: Form) -> Option<usize>
     ensures bound { IfSome result (λ at. at < 2 ^ 62) }
     ensures again { (text rest : List ℕ) → length text ≤ max_text_len → held.now ≡ codes "blob "
-        ++ (decimal (length text) ++ 0 ∷ rest) → result ≡ Some (commit_offset text) }
+        ++ (decimal (length text) ++ 0 ∷ rest) → result ≡ Some (commit_offset form text) }
 {
     let (front, size) = head(b"blob ", held)?;
     if size > MAX_TEXT_LEN {
         return None;
     }
-    Some(front + size as usize + TREE_LEN)
+    Some(front + size as usize + tree_len(form))
 }
 
 /// Returns how much of an entry the bytes have, by the offset of its commit.
 fn look_at_commit(held: &[u8], left: u64, at: usize) -> Sight
     requires { at < 2 ^ 62 }
-    ensures { SeesCommit at held.now left result }
+    ensures { (of : IdForm) → SeesCommit of at held.now left result }
 {
     if is_short(held, left, at + HEAD_LEN) {
         return Sight::Short;
@@ -89,7 +99,7 @@ fn entry_len(held: &[u8], at: usize) -> Option<u64>
 
 /// Returns how much of an entry the bytes have, by its length.
 fn look_at_all(held: &[u8], left: u64, len: u64) -> Sight
-    ensures { SeesAll len held.now left result }
+    ensures { (of : IdForm) → SeesAll of len held.now left result }
 {
     if len > left {
         return Sight::Lacks;

@@ -2,7 +2,7 @@
 //! Pure.
 use crate::entry::SeenList;
 use crate::window::{Part, Window};
-use arch_base::ObjectId;
+use arch_base::{Form, ObjectId};
 
 /// The state of a walk over an epoch's file.
 #[derive(Drop)]
@@ -15,4 +15,6 @@ pub(crate) struct State {
     pub(crate) parent: Option<ObjectId>,
     /// The entries that were found.
     pub(crate) seen: SeenList,
+    /// The form of the epoch.
+    pub(crate) form: Form,
 }

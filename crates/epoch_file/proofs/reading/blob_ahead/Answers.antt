@@ -12,4 +12,4 @@ returns-in-Blob-default-clause-again c = λ content rest fits is.
 
 pub returns-in-Blob-default-clause-spelled : goal.returns-in-Blob-default-clause-spelled
 returns-in-Blob-default-clause-spelled c =
-    blob_ahead_is c.args.bytes.now c.in_ok-content.field-0.0 c.in-Blob-default.content c.in_ok-content.field-0.1 c.in-Blob-default.is-0 c.in_ok-content.ensures.found
+    blob_ahead_is c.args.form c.args.bytes.now c.in_ok-content.field-0.0 c.in-Blob-default.content c.in_ok-content.field-0.1 c.in-Blob-default.is-0 c.in_ok-content.ensures.found

@@ -23,7 +23,7 @@ returns-in-Err-clause-planned g c =
     let leaves : c.is_among-leaves.result ≡ is_among gone i = c.is_among-leaves.ensures ∙ ap (is_among gone) before.count in
     let takes = subst (λ (b : Bool). WhereTold (TakesNext old (get_or seen i s) b new (Err c.in-Err.refusal)) m) leaves
     (subst (λ (x : Seen). WhereTold (TakesNext old x c.is_among-leaves.result new (Err c.in-Err.refusal)) m) item c.in-Err.ensures.taken) in
-    entries_refused c.args.from seen gone i s old new c.in-Err.refusal (content c.args.disk.now) m below before.file before.same takes before.planned
+    entries_refused c.args.form c.args.from seen gone i s old new c.in-Err.refusal (content c.args.disk.now) m below before.file before.form before.same takes before.planned
 
 pub loop-entry-preserved : goal.loop-entry-preserved
 loop-entry-preserved g c =
@@ -48,7 +48,8 @@ loop-entry-preserved g c =
     record {
       count = (let count = before.count in omega (arith, count));
       file = c.in_default.ensures.file ∙ before.file;
-      planned = planned_more c.args.from seen gone i s old new m (content d2) below before.file c.in_default.ensures.same takes before.planned;
+      form = c.in_default.ensures.form ∙ before.form;
+      planned = planned_more c.args.form c.args.from seen gone i s old new m (content d2) below before.file before.form c.in_default.ensures.same takes before.planned;
       same = unchanged_then (content disk) m (content d2) before.same c.in_default.ensures.same;
       moments = joined g.D.Disk disk d1 d2 (Image (content disk)) (Image m) (Image (content disk)) before.moments c.in_default.ensures.crash (λ image left. left) (image_back (content disk) m before.same);
       kept = faults ∙ before.kept;
@@ -61,4 +62,4 @@ returns-clause-planned g c =
     let seen = c.args.seen.now in
     let i = c.loop-entry.entry-index in
     let most : length seen ≤ i = (let test = c.loop-entry-test.false in let items = ap (λ (l : List Seen). length l) c.as_slice-entry-items.ensures in omega (arith, test, items)) in
-    entries_whole c.args.from seen c.args.gone.now i c.loop-entry.plan c.finish.result (content c.args.disk.now) (content c.loop-entry.disk) most c.finish.ensures.finished before.same before.planned
+    entries_whole c.args.form c.args.from seen c.args.gone.now i c.loop-entry.plan c.finish.result (content c.args.disk.now) (content c.loop-entry.disk) most before.form c.finish.ensures.finished before.same before.planned

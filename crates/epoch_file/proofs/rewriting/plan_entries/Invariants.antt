@@ -9,7 +9,8 @@ abbrev pub invariant-loop-entry : goal.invariant-loop-entry
 invariant-loop-entry g l = record {
   count : l.index ≡ l.entry-index;
   file : l.plan.file ≡ l.fn.from;
-  planned : WhereTold (PlannedTo l.fn.from l.seen l.gone l.entry-index l.plan) (g.D.Disk.content l.disk);
+  form : l.plan.form ≡ l.fn.form;
+  planned : WhereTold (PlannedTo l.fn.form l.fn.from l.seen l.gone l.entry-index l.plan) (g.D.Disk.content l.disk);
   same : BothTold Unchanged (g.D.Disk.content l.fn.disk) (g.D.Disk.content l.disk);
   moments : LeavesOnly g.D.Disk l.fn.disk l.disk (Image (g.D.Disk.content l.fn.disk));
   kept : g.D.Disk.faults l.disk ≡ g.D.Disk.faults l.fn.disk;

@@ -20,7 +20,7 @@ pub returns-in_err-seen-clause-rewritten : goal.returns-in_err-seen-clause-rewri
 returns-in_err-seen-clause-rewritten g c =
     let content = g.D.Disk.content in
     let p = err_from_is_err_and c.from_residual.result c.from_residual.ensures.1 in
-    rw (p.1, p.2) (walk_refused c.args.from c.args.count c.args.to c.args.gone.now c.in_err-seen.field-0.0 (content c.args.disk.now) (content c.walk.new.disk) c.in_err-seen.ensures.walked c.walk.ensures.same)
+    rw (p.1, p.2) (walk_refused c.args.form c.args.from c.args.count c.args.to c.args.gone.now c.in_err-seen.field-0.0 (content c.args.disk.now) (content c.walk.new.disk) c.in_err-seen.ensures.walked c.walk.ensures.same)
 
 pub returns-in_err-plan-clause-rewritten : goal.returns-in_err-plan-clause-rewritten
 returns-in_err-plan-clause-rewritten g c =
@@ -31,8 +31,8 @@ returns-in_err-plan-clause-rewritten g c =
     let gone = c.args.gone.now in
     let refusal = c.in_err-plan.field-0.0 in
     let p = err_from_is_err_and c.from_residual-in_err-plan.result c.from_residual-in_err-plan.ensures.1 in
-    rw (p.1, p.2) (plan_refused c.args.from c.args.count c.args.to seen gone refusal k (content c.plan_file.new.disk) c.in_ok-seen.ensures.walked
-    (told_back (PlansFile c.args.from c.args.count seen gone (Err refusal)) k m c.walk.ensures.same c.in_err-plan.ensures.planned) (unchanged_then (content c.args.disk.now) (content c.walk.new.disk) (content c.plan_file.new.disk) c.walk.ensures.same c.plan_file.ensures.same))
+    rw (p.1, p.2) (plan_refused c.args.form c.args.from c.args.count c.args.to seen gone refusal k (content c.plan_file.new.disk) c.in_ok-seen.ensures.walked
+    (told_back (PlansFile c.args.form c.args.from c.args.count seen gone (Err refusal)) k m c.walk.ensures.same c.in_err-plan.ensures.planned) (unchanged_then (content c.args.disk.now) (content c.walk.new.disk) (content c.plan_file.new.disk) c.walk.ensures.same c.plan_file.ensures.same))
 
 pub returns-in_err-plan-clause-others : goal.returns-in_err-plan-clause-others
 returns-in_err-plan-clause-others g c =
@@ -100,8 +100,8 @@ returns-then-not-whole-clause-rewritten g c =
     let m = content c.plan_file.new.disk in
     let all = subst (λ (bytes : List ℕ). HasSources bytes m plan.sources → c.in_ok-whole.whole ≡ true) c.bytes.ensures
     (subst (λ (sources : List Source). HasSources c.bytes.result.now m sources → c.in_ok-whole.whole ≡ true) c.sources.ensures c.in_ok-whole.ensures.whole) in
-    never_short c.args.from c.args.count c.args.to seen gone _ plan c.in_ok-whole.whole k m (content c.put_sources.new.disk) c.in_ok-seen.ensures.walked
-    (told_back (PlansFile c.args.from c.args.count seen gone (Ok plan)) k (content c.walk.new.disk) c.walk.ensures.same c.in_ok-plan.ensures.planned) (unchanged_then (content c.args.disk.now) (content c.walk.new.disk) (content c.plan_file.new.disk) c.walk.ensures.same c.plan_file.ensures.same) c.put_sources.ensures.others all c.if-not-whole.true
+    never_short c.args.form c.args.from c.args.count c.args.to seen gone _ plan c.in_ok-whole.whole k m (content c.put_sources.new.disk) c.in_ok-seen.ensures.walked
+    (told_back (PlansFile c.args.form c.args.from c.args.count seen gone (Ok plan)) k (content c.walk.new.disk) c.walk.ensures.same c.in_ok-plan.ensures.planned) (unchanged_then (content c.args.disk.now) (content c.walk.new.disk) (content c.plan_file.new.disk) c.walk.ensures.same c.plan_file.ensures.same) c.put_sources.ensures.others all c.if-not-whole.true
 
 pub returns-clause-rewritten : goal.returns-clause-rewritten
 returns-clause-rewritten g c =
@@ -114,5 +114,5 @@ returns-clause-rewritten g c =
     let o = content c.put_sources.new.disk in
     let put = subst (λ (bytes : List ℕ). BothTold (PutSources bytes plan.sources c.args.to 0) m o) c.bytes.ensures
     (subst (λ (sources : List Source). BothTold (PutSources c.bytes.result.now sources c.args.to 0) m o) c.sources.ensures (c.in_ok-whole.ensures.put c.if-not-whole.false)) in
-    written_whole c.args.from c.args.count c.args.to seen gone plan c.count.result k m o c.in_ok-seen.ensures.walked
-    (told_back (PlansFile c.args.from c.args.count seen gone (Ok plan)) k (content c.walk.new.disk) c.walk.ensures.same c.in_ok-plan.ensures.planned) c.count.ensures.count (unchanged_then (content c.args.disk.now) (content c.walk.new.disk) (content c.plan_file.new.disk) c.walk.ensures.same c.plan_file.ensures.same) put
+    written_whole c.args.form c.args.from c.args.count c.args.to seen gone plan c.count.result k m o c.in_ok-seen.ensures.walked
+    (told_back (PlansFile c.args.form c.args.from c.args.count seen gone (Ok plan)) k (content c.walk.new.disk) c.walk.ensures.same c.in_ok-plan.ensures.planned) c.count.ensures.count (unchanged_then (content c.args.disk.now) (content c.walk.new.disk) (content c.plan_file.new.disk) c.walk.ensures.same c.plan_file.ensures.same) put

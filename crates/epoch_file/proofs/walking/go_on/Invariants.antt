@@ -10,6 +10,7 @@ abbrev pub invariant-loop-alloc : goal.invariant-loop-alloc
 invariant-loop-alloc g l = record {
   keeps : WhereTold (KeepsWalked l.fn.start l.state) (g.D.Disk.content l.fn.disk);
   part : SamePart l.fn.start.part l.state.part;
+  form : l.state.form ≡ l.fn.start.form;
   lie : LieIn 0 l.state.part.offset l.state.seen;
   inside : IsInsidePart l.state.part l.state.window;
   room : 8 ≤ length l.piece;

@@ -8,7 +8,7 @@ use Rattle.epoch_file.proofs.planning.EpochPlan.finish.Goals as goal
 pub returns-in-Some-clause-finished : goal.returns-in-Some-clause-finished
 returns-in-Some-clause-finished c =
     let inside = c.self.inside in
-    let was : Planned = record { file = inside.file; changed = inside.changed; end_ = inside.end; parent = inside.parent } in
+    let was : Planned = record { file = inside.file; changed = inside.changed; end_ = inside.end; parent = inside.parent; form = inside.form } in
     let isnt : is_some inside.parent ≡ false = search rules in
     subst (λ (p : Planned). FinishesPlan p (Some c.new.result)) c.self.view_is
     (subst (λ (p : Plan). FinishesPlan was (Some p)) (sym c.new.ensures.plan) (finishes_none was (not_some inside.parent isnt)))
