@@ -5,7 +5,8 @@ use Rattle.std.specs.Str.{bytes_eq}
 use Rattle.std.proofs.Common.{◌∙◌, sym, ap, arith}
 use Rattle.std.proofs.lemmas.Bool.Decides.{nat_tests}
 use Rattle.std.proofs.lemmas.Slice.Eq.{bytes_eq-Decides}
-use Rattle.arch_base.specs.declared.ids.ObjectId.{ObjectId}
+use Rattle.arch_base.specs.Ids.{id_eq}
+use Rattle.arch_base.proofs.IdOrder.{id_eq-Decides}
 use Rattle.git_objects.specs.Objects.{blob_id_of}
 use Rattle.mail_reader.specs.Ids.{own_id}
 use Rattle.arch_model.specs.Archives.{Entry, Archive, without_entries, owner, is_id, is_message, is_ended, live, in_epoch}
@@ -64,10 +65,10 @@ same_test false t clash is = absurd (cc)
 pub agrees-alone : (es : List Entry) (text : List ℕ) → collision es text ≡ None → Agrees text es
 agrees-alone [] text none = tt
 agrees-alone (e ∷ es) text none =
-    let blob = (blob_id_of form.Sha1 text).0 in
-    let other = (blob_id_of form.Sha1 e.text).0 in
-    let both = number_free e.number (collision es text) (bytes_eq blob other && not (bytes_eq text e.text)) none in
-    (λ same. (bytes_eq-Decides text e.text).0 (same_test (bytes_eq blob other) (bytes_eq text e.text) both.0 ((bytes_eq-Decides blob other).1 (ap (λ (i : ObjectId). i.0) same))), agrees-alone es text both.1)
+    let blob = blob_id_of form.Sha1 text in
+    let other = blob_id_of form.Sha1 e.text in
+    let both = number_free e.number (collision es text) (id_eq blob other && not (bytes_eq text e.text)) none in
+    (λ same. (bytes_eq-Decides text e.text).0 (same_test (id_eq blob other) (bytes_eq text e.text) both.0 ((id_eq-Decides blob other).1 same)), agrees-alone es text both.1)
 
 -- The last epoch is one of the 64.
 last_small : (es : List Entry) → AllByRecursion IsEntry es → last_epoch es ≤ 63

@@ -9,6 +9,7 @@ use Rattle.std.proofs.lemmas.Fmt.{decimal_injective, decimal_by_steps, length-de
 use Rattle.sha1.specs.Sha1.{sha1}
 use Rattle.hex.specs.Hex.{encode_lower, encode_with, lower_digits}
 use Rattle.arch_base.specs.Names.{IsArchiveName, is_name_byte}
+use Rattle.arch_base.specs.declared.ids.Form.TheVariants as form
 use Rattle.mail_reader.specs.Ids.{is_id_byte, own_id}
 use Rattle.mail_reader.specs.Laws.{IsMessageId}
 use Rattle.mail_reader.proofs.IdLines.{id_in_front, passed_id_byte}
@@ -60,7 +61,7 @@ inside_length digits k name = omega (arith, length-append digits ((46 ∷ decima
 -- most 64 bytes.
 inside-short : (name text : List ℕ) (k : ℕ) → IsArchiveName name → k < 2 ^ 64 → length (made_inside (encode_lower (sha1 text)) k name) ≤ 134
 inside-short name text k is small =
-    let id = IsObjectId-id_of text in
+    let id = IsObjectId-id_of form.Sha1 text in
     let digits : List ℕ = encode_lower (sha1 text) in
     let some : length digits ≡ 2 * length (sha1 text) = digits_length (sha1 text) in
     let twenty : length (sha1 text) ≡ 20 = id.len in
@@ -79,7 +80,7 @@ unfolding id_with
 made-IsMessageId name text k is small =
     let P = λ (x : ℕ). is_id_byte x ≡ true in
     let digits : List ℕ = encode_lower (sha1 text) in
-    let id = IsObjectId-id_of text in
+    let id = IsObjectId-id_of form.Sha1 text in
     let some : length digits ≡ 2 * length (sha1 text) = digits_length (sha1 text) in
     let twenty : length (sha1 text) ≡ 20 = id.len in
     let whole : length (made_inside digits k name) ≡ length digits + length (decimal k) + length name + 10 = inside_length digits k name in

@@ -1,6 +1,5 @@
 -- What a shelf gives, entry by entry, and calls that only read, one after another.
 use Rattle.std.proofs.Common.{inl, inr, ◌≡◌, ◌≤◌, ◌==◌, ℕ, Bool, true, false, List, [], ◌∷◌, ◌++◌, length, Option, Some, None, Err, refl, sym, ap, ◌∙◌, append_assoc, arith, if◌then◌else◌}
-use Rattle.std.specs.Str.{bytes_eq}
 use Rattle.std.proofs.lemmas.Bool.Decides.{nat_tests}
 use Rattle.std.proofs.lemmas.List.{append-nil}
 use Rattle.git_objects.specs.Objects.{blob_id_of}
@@ -8,8 +7,10 @@ use Rattle.arch_model.specs.Archives.{Entry, Archive, is_message, live, messages
 use Rattle.arch_model.specs.Validity.{NumberIsFrom, number_after, Rise, AtEachPlace, EndsLive}
 use Rattle.git_objects.specs.declared.entry_kind.EntryKind.{EntryKind}
 use Rattle.git_objects.specs.declared.entry_kind.EntryKind.TheVariants.{Message, Deletion}
-use Rattle.std.proofs.lemmas.Slice.Eq.{bytes_eq-Decides}
 use Rattle.arch_base.specs.declared.ids.Form.TheVariants as form
+use Rattle.arch_base.specs.declared.ids.ObjectId.{ObjectId}
+use Rattle.arch_base.specs.Ids.{id_eq}
+use Rattle.arch_base.proofs.IdOrder.{id_eq-Decides}
 use Rattle.arch_model.proofs.LiveEntries.{HasText, found-has, live-has}
 use Rattle.arch_model.specs.Standing.{GivesTextIn, GivesEpochIn}
 use Rattle.arch_model.specs.Shelves.{line_after, lines_after, blob_text, GivesBlobIn, AppendsTo, IsUndamaged, ReadingWhy, ShelfStays}
@@ -24,7 +25,7 @@ undamaged-text entries n old new (refusal.Damaged named found) given = given
 undamaged-text entries n old new refusal.NoMemory given = tt
 
 -- Nor is one that is read by its blob id.
-pub undamaged-blob : (entries : List Entry) (blob old new : List ℕ) (why : TextRefusal) → GivesBlobIn entries blob old new (Err why) → IsUndamaged why
+pub undamaged-blob : (entries : List Entry) (blob : ObjectId) (old new : List ℕ) (why : TextRefusal) → GivesBlobIn entries blob old new (Err why) → IsUndamaged why
 undamaged-blob entries blob old new refusal.DiskFault given = tt
 undamaged-blob entries blob old new (refusal.Damaged named found) given = given
 undamaged-blob entries blob old new refusal.NoMemory given = tt
@@ -89,28 +90,28 @@ has_step : (t : Bool) (number : ℕ) (more : Option ℕ) → (if t then Some num
 has_step true number more none = absurd (cc)
 has_step false number more none = (refl, none)
 
-pub has-blob : (es : List Entry) (text : List ℕ) → HasText text es → blob_number es (blob_id_of form.Sha1 text).0 ≡ None → ⊥
+pub has-blob : (es : List Entry) (text : List ℕ) → HasText text es → blob_number es (blob_id_of form.Sha1 text) ≡ None → ⊥
 has-blob [] text has none = has
 has-blob (e ∷ es) text (inl is) none =
-    let both = has_step (bytes_eq (blob_id_of form.Sha1 text).0 (blob_id_of form.Sha1 e.text).0) e.number (blob_number es (blob_id_of form.Sha1 text).0) none in
-    let hit : bytes_eq (blob_id_of form.Sha1 text).0 (blob_id_of form.Sha1 e.text).0 ≡ true = (bytes_eq-Decides (blob_id_of form.Sha1 text).0 (blob_id_of form.Sha1 e.text).0).1 (ap (λ (t : List ℕ). (blob_id_of form.Sha1 t).0) (sym is)) in
+    let both = has_step (id_eq (blob_id_of form.Sha1 text) (blob_id_of form.Sha1 e.text)) e.number (blob_number es (blob_id_of form.Sha1 text)) none in
+    let hit : id_eq (blob_id_of form.Sha1 text) (blob_id_of form.Sha1 e.text) ≡ true = (id_eq-Decides (blob_id_of form.Sha1 text) (blob_id_of form.Sha1 e.text)).1 (ap (blob_id_of form.Sha1) (sym is)) in
     let wrong : true ≡ false = sym hit ∙ both.0 in
     absurd (cc)
-has-blob (e ∷ es) text (inr more) none = has-blob es text more (has_step (bytes_eq (blob_id_of form.Sha1 text).0 (blob_id_of form.Sha1 e.text).0) e.number (blob_number es (blob_id_of form.Sha1 text).0) none).1
+has-blob (e ∷ es) text (inr more) none = has-blob es text more (has_step (id_eq (blob_id_of form.Sha1 text) (blob_id_of form.Sha1 e.text)) e.number (blob_number es (blob_id_of form.Sha1 text)) none).1
 
 -- One more entry with another blob id has none either.
-none-push : (es : List Entry) (e : Entry) (blob : List ℕ) → blob_number es blob ≡ None → bytes_eq blob (blob_id_of form.Sha1 e.text).0 ≡ false → blob_number (es ++ e ∷ []) blob ≡ None
+none-push : (es : List Entry) (e : Entry) (blob : ObjectId) → blob_number es blob ≡ None → id_eq blob (blob_id_of form.Sha1 e.text) ≡ false → blob_number (es ++ e ∷ []) blob ≡ None
 none-push [] e blob none other = ap (λ (t : Bool). if t then Some e.number else None) other
 none-push (x ∷ es) e blob none other =
-    let both = has_step (bytes_eq blob (blob_id_of form.Sha1 x.text).0) x.number (blob_number es blob) none in
+    let both = has_step (id_eq blob (blob_id_of form.Sha1 x.text)) x.number (blob_number es blob) none in
     ap (λ (t : Bool). if t then Some x.number else blob_number (es ++ e ∷ []) blob) both.0 ∙ none-push es e blob both.1 other
 
 -- The number of the first entry with a blob id is that of a message, which has that entry's text.
-abbrev pub FoundAt : List Entry → List ℕ → ℕ → ℕ → Type 0
+abbrev pub FoundAt : List Entry → ObjectId → ℕ → ℕ → Type 0
 FoundAt es blob number n = (number ≤ n) × ((text : List ℕ) × (text_of (messages es) n ≡ Some text) × (blob_text es blob ≡ Some text))
 
 -- The first entry with a blob id isn't a deletion, whose text is there before.
-first_kind : (k : EntryKind) (before : List Entry) (e : Entry) (blob : List ℕ) → EndsLive k before e → blob ≡ (blob_id_of form.Sha1 e.text).0 → blob_number before blob ≡ None → k ≡ Message
+first_kind : (k : EntryKind) (before : List Entry) (e : Entry) (blob : ObjectId) → EndsLive k before e → blob ≡ blob_id_of form.Sha1 e.text → blob_number before blob ≡ None → k ≡ Message
 first_kind Message before e blob ends is none = refl
 first_kind Deletion before e blob ends is none = absurd (has-blob before e.text (live-has before e.text (found-has (live before) e.number e.text ends)) (ap (blob_number before) (sym is) ∙ none))
 
@@ -130,34 +131,34 @@ past_step Message number e es n text low above is =
     (omega (arith, low, above), ap (λ (t : Bool). if t then Some e.text else text_of (messages es) n) other ∙ is)
 past_step Deletion number e es n text low above is = (above, is)
 
-blob-step : (t : Bool) (number : ℕ) (before : List Entry) (e : Entry) (es : List Entry) (blob : List ℕ) (n : ℕ) → bytes_eq blob (blob_id_of form.Sha1 e.text).0 ≡ t → blob_number before blob ≡ None → EndsLive e.kind before e → RisesFrom number (e ∷ es) → (if t then Some e.number else blob_number es blob) ≡ Some n
+blob-step : (t : Bool) (number : ℕ) (before : List Entry) (e : Entry) (es : List Entry) (blob : ObjectId) (n : ℕ) → id_eq blob (blob_id_of form.Sha1 e.text) ≡ t → blob_number before blob ≡ None → EndsLive e.kind before e → RisesFrom number (e ∷ es) → (if t then Some e.number else blob_number es blob) ≡ Some n
     → (blob_number (before ++ e ∷ []) blob ≡ None → blob_number es blob ≡ Some n → FoundAt es blob (number_after e.kind number e.number) n) → FoundAt (e ∷ es) blob number n
 blob-step true number before e es blob n test none ends rise is rest =
     let same : e.number ≡ n = cc in
-    let kind = first_kind e.kind before e blob ends ((bytes_eq-Decides blob (blob_id_of form.Sha1 e.text).0).0 test) none in
+    let kind = first_kind e.kind before e blob ends ((id_eq-Decides blob (blob_id_of form.Sha1 e.text)).0 test) none in
     (low_step e.kind number e.number n kind rise.0 same, (e.text, hit_step e.kind (e.number == n) e es n kind refl same, ap (λ (u : Bool). if u then Some e.text else blob_text es blob) test))
 blob-step false number before e es blob n test none ends rise is rest =
     let found = rest (none-push before e blob none test) is in
     let both = past_step e.kind number e es n found.1.0 rise.0 found.0 found.1.1 in
     (both.0, (found.1.0, both.1, ap (λ (u : Bool). if u then Some e.text else blob_text es blob) test ∙ found.1.2))
 
-blob-from : (number : ℕ) (before es : List Entry) (blob : List ℕ) (n : ℕ) → blob_number before blob ≡ None → EndAll before es → RisesFrom number es → blob_number es blob ≡ Some n → FoundAt es blob number n
+blob-from : (number : ℕ) (before es : List Entry) (blob : ObjectId) (n : ℕ) → blob_number before blob ≡ None → EndAll before es → RisesFrom number es → blob_number es blob ≡ Some n → FoundAt es blob number n
 blob-from number before [] blob n none ends rise is = absurd (cc)
 blob-from number before (e ∷ es) blob n none ends rise is =
-    blob-step (bytes_eq blob (blob_id_of form.Sha1 e.text).0) number before e es blob n refl none ends.0 rise is (λ past more. blob-from (number_after e.kind number e.number) (before ++ e ∷ []) es blob n past ends.1 rise.1 more)
+    blob-step (id_eq blob (blob_id_of form.Sha1 e.text)) number before e es blob n refl none ends.0 rise is (λ past more. blob-from (number_after e.kind number e.number) (before ++ e ∷ []) es blob n past ends.1 rise.1 more)
 
-pub blob-found : (number : ℕ) (es : List Entry) (blob : List ℕ) (n : ℕ) → EndAll [] es → RisesFrom number es → blob_number es blob ≡ Some n → FoundAt es blob number n
+pub blob-found : (number : ℕ) (es : List Entry) (blob : ObjectId) (n : ℕ) → EndAll [] es → RisesFrom number es → blob_number es blob ≡ Some n → FoundAt es blob number n
 blob-found number es blob n ends rise is = blob-from number [] es blob n refl ends rise is
 
 -- So the message of that number has the text of the blob id.
-pub blob_found-text : (number : ℕ) (es : List Entry) (blob : List ℕ) (n : ℕ) → EndAll [] es → RisesFrom number es → blob_number es blob ≡ Some n → text_of (messages es) n ≡ blob_text es blob
+pub blob_found-text : (number : ℕ) (es : List Entry) (blob : ObjectId) (n : ℕ) → EndAll [] es → RisesFrom number es → blob_number es blob ≡ Some n → text_of (messages es) n ≡ blob_text es blob
 blob_found-text number es blob n ends rise is = let found = blob-found number es blob n ends rise is in found.1.1 ∙ sym found.1.2
 
 -- Where no entry has the blob id there is no such text.
-blob-miss : (t : Bool) (e : Entry) (es : List Entry) (blob : List ℕ) → bytes_eq blob (blob_id_of form.Sha1 e.text).0 ≡ t → blob_number (e ∷ es) blob ≡ None → (blob_number es blob ≡ None → blob_text es blob ≡ None) → blob_text (e ∷ es) blob ≡ None
+blob-miss : (t : Bool) (e : Entry) (es : List Entry) (blob : ObjectId) → id_eq blob (blob_id_of form.Sha1 e.text) ≡ t → blob_number (e ∷ es) blob ≡ None → (blob_number es blob ≡ None → blob_text es blob ≡ None) → blob_text (e ∷ es) blob ≡ None
 blob-miss true e es blob test is rest = let never : Some e.number ≡ None = rw test at is in absurd (cc)
 blob-miss false e es blob test is rest = rw test (rest (rw test at is))
 
-pub blob-none : (es : List Entry) (blob : List ℕ) → blob_number es blob ≡ None → blob_text es blob ≡ None
+pub blob-none : (es : List Entry) (blob : ObjectId) → blob_number es blob ≡ None → blob_text es blob ≡ None
 blob-none [] blob is = refl
-blob-none (e ∷ es) blob is = blob-miss (bytes_eq blob (blob_id_of form.Sha1 e.text).0) e es blob refl is (λ more. blob-none es blob more)
+blob-none (e ∷ es) blob is = blob-miss (id_eq blob (blob_id_of form.Sha1 e.text)) e es blob refl is (λ more. blob-none es blob more)

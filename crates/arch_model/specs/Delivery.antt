@@ -1,6 +1,7 @@
 -- What the commands do to an archive, and their answers.
 use Rattle.std.specs.Prelude.{◌≡◌, ◌+◌, ℕ, Bool, true, false, not, ◌&&◌, ◌||◌, ◌==◌, nat_lt, List, [], ◌∷◌, ◌++◌, length, codes, decimal, Option, Some, None, Result, Ok, Err, if◌then◌else◌}
 use Rattle.std.specs.Str.{bytes_eq}
+use Rattle.arch_base.specs.Ids.{id_bytes, id_eq}
 use Rattle.arch_base.specs.declared.ids.Form.TheVariants as form
 use Rattle.hex.specs.Hex.{encode_lower}
 use Rattle.mail_reader.specs.Stored.{stored}
@@ -45,7 +46,7 @@ new_epoch a =
 
 -- The entry has the blob id of the text, and another text.
 abbrev pub clashes : List ℕ → Entry → Bool
-clashes text e = bytes_eq (blob_id_of form.Sha1 text).0 (blob_id_of form.Sha1 e.text).0 && not (bytes_eq text e.text)
+clashes text e = id_eq (blob_id_of form.Sha1 text) (blob_id_of form.Sha1 e.text) && not (bytes_eq text e.text)
 
 -- The number of the first entry with the blob id of the text and another text, if there is one. It
 -- may be live or not, and is the least such number, since a deletion comes after its message.
@@ -181,7 +182,7 @@ file_words file = kind_words file.kind file.number
 
 -- The line of an answer, without its line feed.
 abbrev pub answer_line : Answer → List ℕ
-answer_line (answer.Ok number id) = codes "1 ok " ++ (decimal number ++ 32 ∷ encode_lower id.0)
+answer_line (answer.Ok number id) = codes "1 ok " ++ (decimal number ++ 32 ∷ encode_lower (id_bytes id))
 answer_line (answer.Duplicate number) = codes "2 duplicate " ++ decimal number
 answer_line answer.NoFields = codes "3 no fields"
 answer_line (answer.TooLarge len) = codes "4 too large " ++ decimal len

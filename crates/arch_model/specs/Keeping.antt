@@ -248,7 +248,7 @@ opening_answer opening.NoMemory = answer.NoMemory
 
 -- An entry has the blob id of a text that a choice keeps.
 abbrev pub keeps_known : List Entry → Choice → Bool
-keeps_known entries (Take text) = is_some (blob_number entries (blob_id_of form.Sha1 text).0)
+keeps_known entries (Take text) = is_some (blob_number entries (blob_id_of form.Sha1 text))
 keeps_known entries (Repeat number) = false
 
 -- An entry has the blob id of the text that a delivery of this form would keep.

@@ -1,9 +1,10 @@
 -- What a shelf gives of its archive, and what a call that only reads leaves.
 use Rattle.std.specs.Prelude.{◌≡◌, ◌≢◌, ◌+◌, ◌<◌, ◌≤◌, ℕ, Bool, true, false, ◌&&◌, nat_le, List, [], ◌∷◌, ◌++◌, length, slice_get, Option, Some, None, is_some, Result, Ok, Err, if◌then◌else◌}
 use Rattle.std.specs.List.{filter}
-use Rattle.std.specs.Str.{bytes_eq}
 use Rattle.arch_base.specs.Counts.{Rose}
+use Rattle.arch_base.specs.Ids.{id_eq}
 use Rattle.arch_base.specs.declared.ids.Form.TheVariants as form
+use Rattle.arch_base.specs.declared.ids.ObjectId.{ObjectId}
 use Rattle.git_objects.specs.Objects.{blob_id_of}
 use Rattle.mail_commits.specs.Entries.{commit_id}
 use Rattle.arch_model.specs.Archives.{Entry, Archive, text_of, in_epoch}
@@ -49,14 +50,14 @@ line_at entries index = slice_get (lines_after [] entries) index
 
 -- The text of the first entry with a blob id, if there is one. All entries of a valid archive that
 -- have the blob id have this text.
-abbrev pub blob_text : List Entry → List ℕ → Option (List ℕ)
+abbrev pub blob_text : List Entry → ObjectId → Option (List ℕ)
 blob_text [] blob = None
 blob_text (e ∷ es) blob =
-    if bytes_eq blob (blob_id_of form.Sha1 e.text).0 then Some e.text else blob_text es blob
+    if id_eq blob (blob_id_of form.Sha1 e.text) then Some e.text else blob_text es blob
 
 -- The result of reading a text by its blob id: the text is appended, or no entry has the blob id. No
 -- damage is found.
-abbrev pub GivesBlobIn : List Entry → List ℕ → List ℕ → List ℕ → Result Bool TextRefusal → Type 0
+abbrev pub GivesBlobIn : List Entry → ObjectId → List ℕ → List ℕ → Result Bool TextRefusal → Type 0
 GivesBlobIn entries blob old new (Ok true) = (text : List ℕ) × (blob_text entries blob ≡ Some text)
     × (new ≡ old ++ text)
 GivesBlobIn entries blob old new (Ok false) = blob_text entries blob ≡ None

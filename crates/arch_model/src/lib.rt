@@ -24,7 +24,7 @@ pub use laws::{
     reindex_keeps_the_archive,
 };
 pub use line::EntryLine;
-pub use mail_commits::{EntryIds, entry_commit, push_entry};
+pub use mail_commits::{EntryIds, EntryText, entry_commit, push_entry};
 pub use mail_forms::Row;
 pub use next::Next;
 pub use opening::OpenRefusal;

@@ -139,7 +139,7 @@ pub trait Shelf {
     fn blob(&mut self, id: &ObjectId, into: &mut Bytes) -> Result<bool, TextRefusal>
         requires ready { ready self.old ≡ true }
         ensures blob { (a : Archive) → holds self.old a
-            → GivesBlobIn a.entries id.now.0 into.old into.new result }
+            → GivesBlobIn a.entries id.now into.old into.new result }
         ensures kept { KeepsUnlessFound into.old into.new result }
         ensures appends { AppendsTo into.old into.new }
         ensures shelf { ShelfStays holds ready alike faults self.old self.new }
