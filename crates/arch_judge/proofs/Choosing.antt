@@ -4,6 +4,7 @@ use Rattle.std.specs.Str.{bytes_eq}
 use Rattle.std.proofs.Common.{◌∙◌, sym, ap, subst, arith}
 use Rattle.std.proofs.lemmas.Bool.Decides.{nat_tests}
 use Rattle.arch_base.specs.Names.{IsArchiveName}
+use Rattle.arch_base.specs.Ids.{id_bytes}
 use Rattle.arch_base.specs.declared.config.Config.{Config}
 use Rattle.arch_base.specs.declared.ids.ObjectId.{ObjectId}
 use Rattle.arch_base.specs.declared.ids.Form.TheVariants as form
@@ -45,16 +46,16 @@ abbrev pub asked : Index → List ℕ → List ℕ → ℕ → Meeting
 asked index name text i = met_in (owner_in index.owners (made_id name text i)) (content_id_of text)
 
 -- The id that is looked up is the made id: digits, a count and a name.
-is_made : (id digits name text own : List ℕ) (i : ℕ) (object : ObjectId) → id ≡ id_with digits i name → digits ≡ encode_lower object.0 → object ≡ id_of form.Sha1 text → name ≡ own → id ≡ made_id own text i
+is_made : (id digits name text own : List ℕ) (i : ℕ) (object : ObjectId) → id ≡ id_with digits i name → digits ≡ encode_lower (id_bytes object) → object ≡ id_of form.Sha1 text → name ≡ own → id ≡ made_id own text i
 is_made id digits name text own i object is digits_is object_is name_is =
-    is ∙ (ap (λ (d : List ℕ). id_with d i name) (digits_is ∙ ap (λ (o : ObjectId). encode_lower o.0) object_is) ∙ ap (λ (n : List ℕ). made_id n text i) name_is)
+    is ∙ (ap (λ (d : List ℕ). id_with d i name) (digits_is ∙ ap (λ (o : ObjectId). encode_lower (id_bytes o)) object_is) ∙ ap (λ (n : List ℕ). made_id n text i) name_is)
 
 is_asked : (index : Index) (id name text content : List ℕ) (i : ℕ) (m : Meeting) → m ≡ met_in (owner_in index.owners id) content → id ≡ made_id name text i → content ≡ content_id_of text → asked index name text i ≡ m
 is_asked index id name text content i m is id_is content_is =
     sym (is ∙ ap (λ (q : List ℕ). met_in (owner_in index.owners q) content) id_is ∙ ap (met_in (owner_in index.owners (made_id name text i))) content_is)
 
 -- The id that is looked up is the made id of a count, and the index meets that one so.
-pub asks_made : (index : Index) (id looked digits name text own content : List ℕ) (i : ℕ) (object : ObjectId) (m : Meeting) → id ≡ id_with digits i name → digits ≡ encode_lower object.0 → object ≡ id_of form.Sha1 text → name ≡ own
+pub asks_made : (index : Index) (id looked digits name text own content : List ℕ) (i : ℕ) (object : ObjectId) (m : Meeting) → id ≡ id_with digits i name → digits ≡ encode_lower (id_bytes object) → object ≡ id_of form.Sha1 text → name ≡ own
     → looked ≡ id → m ≡ met_in (owner_in index.owners looked) content → content ≡ content_id_of text → (id ≡ made_id own text i) × (asked index own text i ≡ m)
 asks_made index id looked digits name text own content i object m is digits_is object_is name_is looked_is met_is content_is =
     let made = is_made id digits name text own i object is digits_is object_is name_is in

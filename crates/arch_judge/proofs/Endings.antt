@@ -4,7 +4,10 @@ use Rattle.std.specs.Str.{bytes_eq}
 use Rattle.std.specs.List.{AllByRecursion}
 use Rattle.std.proofs.lemmas.Bool.Decides.{nat_tests}
 use Rattle.std.proofs.lemmas.Slice.Eq.{bytes_eq-Decides}
+use Rattle.arch_base.specs.Ids.{id_eq}
+use Rattle.arch_base.specs.declared.ids.ObjectId.{ObjectId}
 use Rattle.arch_base.specs.declared.ids.Form.TheVariants as form
+use Rattle.arch_base.proofs.IdOrder.{id_eq-Decides}
 use Rattle.mail_reader.specs.Ids.{own_id}
 use Rattle.git_objects.specs.Objects.{blob_id_of}
 use Rattle.git_objects.specs.declared.entry_kind.EntryKind.{EntryKind}
@@ -127,7 +130,7 @@ IsArchiveIndex-ends es n epoch text moment number first old new own is rise diff
   blobs = λ q.
       lost.blobs q
       ∙ is.blobs q
-      ∙ kept_put (bytes_eq q (blob_id_of form.Sha1 text).0) n (blob_number es q)
-      (λ yes none. has-blob es text (live-has es text (found-has (live es) n text shown)) (subst (λ (b : List ℕ). blob_number es b ≡ None) ((bytes_eq-Decides q (blob_id_of form.Sha1 text).0).0 yes) none))
+      ∙ kept_put (id_eq q (blob_id_of form.Sha1 text)) n (blob_number es q)
+      (λ yes none. has-blob es text (live-has es text (found-has (live es) n text shown)) (subst (λ (b : ObjectId). blob_number es b ≡ None) ((id_eq-Decides q (blob_id_of form.Sha1 text)).0 yes) none))
       ∙ sym (blob_number-push es (deletion n epoch text moment) q);
 }

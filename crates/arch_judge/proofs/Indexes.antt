@@ -2,6 +2,7 @@
 use Rattle.std.proofs.Common.{◌≡◌, ℕ, Bool, true, false, List, [], ◌∷◌, ◌++◌, Option, Some, None, option_map, refl, sym, ◌∙◌, ap, subst, if◌then◌else◌}
 use Rattle.std.specs.Str.{bytes_eq}
 use Rattle.std.proofs.lemmas.Slice.Eq.{bytes_eq-Decides}
+use Rattle.arch_base.specs.Ids.{id_eq}
 use Rattle.arch_base.specs.declared.ids.ObjectId.{ObjectId}
 use Rattle.arch_base.specs.declared.ids.Form.TheVariants as form
 use Rattle.mail_reader.specs.Ids.{own_id}
@@ -19,9 +20,9 @@ pub owner-push : (es : List Entry) (e : Entry) (q : List ℕ) → owner (es ++ e
 owner-push [] e q = refl
 owner-push (x ∷ es) e q = found_step (is_id q (own_id x.text)) x (owner es q) (if is_id q (own_id e.text) then Some e else None) (owner (es ++ e ∷ []) q) (owner-push es e q)
 
-pub blob_number-push : (es : List Entry) (e : Entry) (q : List ℕ) → blob_number (es ++ e ∷ []) q ≡ first_found (blob_number es q) (if bytes_eq q (blob_id_of form.Sha1 e.text).0 then Some e.number else None)
+pub blob_number-push : (es : List Entry) (e : Entry) (q : ObjectId) → blob_number (es ++ e ∷ []) q ≡ first_found (blob_number es q) (if id_eq q (blob_id_of form.Sha1 e.text) then Some e.number else None)
 blob_number-push [] e q = refl
-blob_number-push (x ∷ es) e q = found_step (bytes_eq q (blob_id_of form.Sha1 x.text).0) x.number (blob_number es q) (if bytes_eq q (blob_id_of form.Sha1 e.text).0 then Some e.number else None) (blob_number (es ++ e ∷ []) q) (blob_number-push es e q)
+blob_number-push (x ∷ es) e q = found_step (id_eq q (blob_id_of form.Sha1 x.text)) x.number (blob_number es q) (if id_eq q (blob_id_of form.Sha1 e.text) then Some e.number else None) (blob_number (es ++ e ∷ []) q) (blob_number-push es e q)
 
 put_step : {X Y : Type 0} (f : X → Y) (t u : Bool) (x : X) (found : Option X) (y : Y) → f x ≡ y → t ≡ u → (u ≡ true → found ≡ None) → (if t then Some y else option_map f found) ≡ option_map f (first_found found (if u then Some x else None))
 put_step f true true x found y is same none = rw (none refl) (ap Some (sym is))
@@ -42,9 +43,9 @@ IsArchiveIndex-push es e old new id blob message grows is puts known own free bl
       ∙ ap (option_map owner_of) (sym (ap (λ (l : List Entry). owner l q) grows ∙ owner-push (live es) e q));
   blobs = λ q.
       puts.blobs q
-      ∙ ap (λ (f : Option ℕ). first_found f (if bytes_eq q blob.0 then Some message.number else None)) (is.blobs q)
-      ∙ ap (λ (n : ℕ). first_found (blob_number es q) (if bytes_eq q blob.0 then Some n else None)) (sym (ap (λ (o : Owner). o.number) known))
-      ∙ ap (λ (i : ObjectId). first_found (blob_number es q) (if bytes_eq q i.0 then Some e.number else None)) blob_is
+      ∙ ap (λ (f : Option ℕ). first_found f (if id_eq q blob then Some message.number else None)) (is.blobs q)
+      ∙ ap (λ (n : ℕ). first_found (blob_number es q) (if id_eq q blob then Some n else None)) (sym (ap (λ (o : Owner). o.number) known))
+      ∙ ap (λ (i : ObjectId). first_found (blob_number es q) (if id_eq q i then Some e.number else None)) blob_is
       ∙ sym (blob_number-push es e q);
 }
 

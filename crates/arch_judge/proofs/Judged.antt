@@ -31,36 +31,36 @@ use Rattle.arch_model.proofs.Owners.{collision-alone, collision-first}
 module _ (a : Archive) (config : Config) (index : Index) (next : ℕ) (known : IsKnownBy config index next a) (bytes : List ℕ) where
   module _ (writable : config.mirror ≡ false) where
     -- A delivery to an archive that is no mirror goes by the storage form.
-    pub formed : (form : Result (List ℕ) StoredRefusal) → stored bytes ≡ form → (moment : ℕ) → delivered a bytes moment ≡ delivered_form a moment form
-    formed form is moment =
+    pub formed : (source : Result (List ℕ) StoredRefusal) → stored bytes ≡ source → (moment : ℕ) → delivered a bytes moment ≡ delivered_form a moment source
+    formed source is moment =
         ap (λ (t : Bool). if t then refused a answer.IsMirror else delivered_form a moment (stored bytes)) (ap (λ (c : Config). c.mirror) known.config_is ∙ writable) ∙ ap (delivered_form a moment) is
 
     -- It goes by what the candidate ids decide.
-    pub chosen : (form : List ℕ) (choice : Choice) → stored bytes ≡ Ok form → choice ≡ choice_of a form → (moment : ℕ) → delivered a bytes moment ≡ delivered_choice a moment choice
-    chosen form choice is choice_is moment = formed (Ok form) is moment ∙ ap (delivered_choice a moment) (sym choice_is)
+    pub chosen : (source : List ℕ) (choice : Choice) → stored bytes ≡ Ok source → choice ≡ choice_of a source → (moment : ℕ) → delivered a bytes moment ≡ delivered_choice a moment choice
+    chosen source choice is choice_is moment = formed (Ok source) is moment ∙ ap (delivered_choice a moment) (sym choice_is)
 
-    module _ (form text : List ℕ) (ids : TextIds) (is : stored bytes ≡ Ok form) (takes : choice_of a form ≡ Take text) (ids_are : ids ≡ text_ids_of form.Sha1 text) where
+    module _ (source text : List ℕ) (ids : TextIds) (is : stored bytes ≡ Ok source) (takes : choice_of a source ≡ Take text) (ids_are : ids ≡ text_ids_of form.Sha1 text) where
       at_text : {X : Type 0} (f : ObjectId → X) → f (blob_id_of form.Sha1 text) ≡ f ids.blob
       at_text f = ap (λ (i : TextIds). f i.blob) (sym ids_are)
 
       -- The text of the first entry with the blob id decides.
-      pub comparing : (n : ℕ) → Some n ≡ number_in index.blobs ids.blob.0 → Compares a bytes text ids.blob n
+      pub comparing : (n : ℕ) → Some n ≡ number_in index.blobs ids.blob → Compares a bytes text ids.blob n
       comparing n given =
-          let first : blob_number a.entries ids.blob.0 ≡ Some n = sym (known.indexed.blobs ids.blob.0) ∙ sym given in
+          let first : blob_number a.entries ids.blob ≡ Some n = sym (known.indexed.blobs ids.blob) ∙ sym given in
           record {
             first = first;
-            known = ap (form_known a) is ∙ ap (keeps_known a.entries) takes ∙ ap is_some (at_text (λ (i : ObjectId). blob_number a.entries i.0) ∙ first);
+            known = ap (form_known a) is ∙ ap (keeps_known a.entries) takes ∙ ap is_some (at_text (blob_number a.entries) ∙ first);
             decides = λ agree kept kept_is moment.
-                chosen form (Take text) is (sym takes) moment
+                chosen source (Take text) is (sym takes) moment
                 ∙ ap (delivered_kept a text moment)
-                (collision-first a.entries text kept n agree (at_text (λ (i : ObjectId). blob_number a.entries i.0) ∙ first) (at_text (λ (i : ObjectId). blob_text a.entries i.0) ∙ kept_is));
+                (collision-first a.entries text kept n agree (at_text (blob_number a.entries) ∙ first) (at_text (blob_text a.entries) ∙ kept_is));
           }
 
       -- Without such an entry only want of numbers can refuse it.
-      pub coming : None ≡ number_in index.blobs ids.blob.0 → (moment : ℕ) → delivered a bytes moment ≡ delivered_new a text moment
+      pub coming : None ≡ number_in index.blobs ids.blob → (moment : ℕ) → delivered a bytes moment ≡ delivered_new a text moment
       coming given moment =
-          chosen form (Take text) is (sym takes) moment
-          ∙ ap (delivered_kept a text moment) (collision-alone a.entries text (at_text (λ (i : ObjectId). blob_number a.entries i.0) ∙ sym (known.indexed.blobs ids.blob.0) ∙ sym given))
+          chosen source (Take text) is (sym takes) moment
+          ∙ ap (delivered_kept a text moment) (collision-alone a.entries text (at_text (blob_number a.entries) ∙ sym (known.indexed.blobs ids.blob) ∙ sym given))
 
 -- The number that is left decides.
 module _ (a : Archive) (config : Config) (next : ℕ) (bytes text : List ℕ) (ids : TextIds) (config_is : a.config ≡ config) (next_is : a.next ≡ next) (comes : (moment : ℕ) → delivered a bytes moment ≡ delivered_new a text moment) (ids_are : ids ≡ text_ids_of form.Sha1 text) where
@@ -86,10 +86,10 @@ pub same-comes : (a : Archive) (bytes text kept : List ℕ) (number : ℕ) → (
 same-comes a bytes text kept number is same moment = is moment ∙ ap (λ (t : Bool). delivered_kept a text moment (if t then None else Some number)) same
 
 -- A text that is taken with a new blob id may be taken.
-pub takes-new : (config : Config) (index : Index) (next : ℕ) (text : List ℕ) (ids : TextIds) (v : Verdict) → MayCome config index text ids → number_in index.blobs ids.blob.0 ≡ None → TakesThis config next text ids v → MayTake config index next v
+pub takes-new : (config : Config) (index : Index) (next : ℕ) (text : List ℕ) (ids : TextIds) (v : Verdict) → MayCome config index text ids → number_in index.blobs ids.blob ≡ None → TakesThis config next text ids v → MayTake config index next v
 takes-new config index next text ids (Kept taken named number) may new takes =
     let kept : MayBeKept config index next text ids number = takes.2 index may in
-    subst (λ (t : List ℕ). MayBeKept config index next t named number × (number_in index.blobs named.blob.0 ≡ None)) (sym takes.0) (subst (λ (i : TextIds). MayBeKept config index next text i number × (number_in index.blobs i.blob.0 ≡ None)) (sym takes.1) (kept, new))
+    subst (λ (t : List ℕ). MayBeKept config index next t named number × (number_in index.blobs named.blob ≡ None)) (sym takes.0) (subst (λ (i : TextIds). MayBeKept config index next text i number × (number_in index.blobs i.blob ≡ None)) (sym takes.1) (kept, new))
 takes-new config index next text ids (Refuse reply) may new takes = takes
 
 -- After the form was found, want of numbers and another text with the blob id may refuse.

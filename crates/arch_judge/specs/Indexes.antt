@@ -5,6 +5,7 @@ use Rattle.std.specs.Ordering.{nat_cmp}
 use Rattle.std.specs.Cmp.Lexicographic.{slice_cmp}
 use Rattle.std.specs.BTreeMap.{BTreeMap, get_by}
 use Rattle.std.specs.Global.{Vec}
+use Rattle.arch_base.specs.Ids.{id_cmp, id_eq}
 use Rattle.arch_base.specs.declared.ids.ObjectId.{ObjectId}
 use Rattle.mail_reader.specs.Content.{content_id_of}
 use Rattle.arch_model.specs.Archives.{Entry, live, owner, blob_number}
@@ -22,15 +23,15 @@ abbrev pub owner_in : BTreeMap (Vec ℕ) Owner → List ℕ → Option Owner
 owner_in owners id = get_by (λ (k : Vec ℕ). slice_cmp nat_cmp id k.items) owners
 
 -- The value of a blob id in a map by blob ids.
-abbrev pub number_in : BTreeMap (List ℕ) ℕ → List ℕ → Option ℕ
-number_in blobs blob = get_by (λ (k : List ℕ). slice_cmp nat_cmp blob k) blobs
+abbrev pub number_in : BTreeMap ObjectId ℕ → ObjectId → Option ℕ
+number_in blobs blob = get_by (id_cmp blob) blobs
 
 -- The index has the live entries by their own ids, and by each blob id the number of the first entry
 -- that has it, live or not.
 pub record IsArchiveIndex (entries : List Entry) (index : Index) : Type 0 where
   pub owners : (id : List ℕ)
       → owner_in index.owners id ≡ option_map owner_of (owner (live entries) id)
-  pub blobs : (blob : List ℕ) → number_in index.blobs blob ≡ blob_number entries blob
+  pub blobs : (blob : ObjectId) → number_in index.blobs blob ≡ blob_number entries blob
 
 -- The first of two options that is Some.
 abbrev pub first_found : {X : Type 0} → Option X → Option X → Option X
@@ -41,32 +42,32 @@ first_found (Some x) other = Some x
 pub record IndexPuts (old new : Index) (id : List ℕ) (blob : ObjectId) (message : Owner) : Type 0 where
   pub owners : (q : List ℕ)
       → owner_in new.owners q ≡ (if bytes_eq q id then Some message else owner_in old.owners q)
-  pub blobs : (q : List ℕ) → number_in new.blobs q ≡ first_found (number_in old.blobs q)
-      (if bytes_eq q blob.0 then Some message.number else None)
+  pub blobs : (q : ObjectId) → number_in new.blobs q ≡ first_found (number_in old.blobs q)
+      (if id_eq q blob then Some message.number else None)
 
 -- An id was removed from the index. Blob ids stay.
 pub record IndexLoses (old new : Index) (id : List ℕ) : Type 0 where
   pub owners : (q : List ℕ)
       → owner_in new.owners q ≡ (if bytes_eq q id then None else owner_in old.owners q)
-  pub blobs : (q : List ℕ) → number_in new.blobs q ≡ number_in old.blobs q
+  pub blobs : (q : ObjectId) → number_in new.blobs q ≡ number_in old.blobs q
 
 -- A blob id was removed if it was that of a number.
 pub record LosesIfOf (old new : Index) (blob : ObjectId) (number : ℕ) : Type 0 where
-  pub its : number_in old.blobs blob.0 ≡ Some number → (q : List ℕ)
-      → number_in new.blobs q ≡ (if bytes_eq q blob.0 then None else number_in old.blobs q)
-  pub other : number_in old.blobs blob.0 ≢ Some number → (q : List ℕ)
+  pub its : number_in old.blobs blob ≡ Some number → (q : ObjectId)
+      → number_in new.blobs q ≡ (if id_eq q blob then None else number_in old.blobs q)
+  pub other : number_in old.blobs blob ≢ Some number → (q : ObjectId)
       → number_in new.blobs q ≡ number_in old.blobs q
 
 -- Two indexes have the same content.
 pub record HasSame (old new : Index) : Type 0 where
   pub owners : (q : List ℕ) → owner_in new.owners q ≡ owner_in old.owners q
-  pub blobs : (q : List ℕ) → number_in new.blobs q ≡ number_in old.blobs q
+  pub blobs : (q : ObjectId) → number_in new.blobs q ≡ number_in old.blobs q
 
 -- The index has the content from before a message with a new id and a new number was put into it.
 abbrev pub TakesBack : Index → Index → List ℕ → ObjectId → ℕ → Type 0
 TakesBack put new id blob number = (old : Index) (message : Owner) → IndexPuts old put id blob message
     → message.number ≡ number → owner_in old.owners id ≡ None
-    → number_in old.blobs blob.0 ≢ Some number → HasSame old new
+    → number_in old.blobs blob ≢ Some number → HasSame old new
 
 -- How a candidate for an id meets the message that has it.
 abbrev pub met_owner : Owner → List ℕ → Meeting

@@ -49,9 +49,9 @@ unless_same text kept number = if bytes_eq text kept then None else Some number
 -- A number is that of the first entry with a blob id, which is that of the text that the delivery would
 -- keep, and the text of that entry decides the delivery.
 pub record Compares (a : Archive) (bytes text : List ℕ) (blob : ObjectId) (number : ℕ) : Type 0 where
-  pub first : blob_number a.entries blob.0 ≡ Some number
+  pub first : blob_number a.entries blob ≡ Some number
   pub known : form_known a (stored bytes) ≡ true
-  pub decides : BlobsAgree a.entries → (kept : List ℕ) → blob_text a.entries blob.0 ≡ Some kept
+  pub decides : BlobsAgree a.entries → (kept : List ℕ) → blob_text a.entries blob ≡ Some kept
       → (moment : ℕ)
       → delivered a bytes moment ≡ delivered_kept a text moment (unless_same text kept number)
 
@@ -93,14 +93,14 @@ IsForDelivery other = Unit {0}
 -- A text that is taken may be kept, and no entry has its blob id. A refusal is for a delivery.
 abbrev pub MayTake : Config → Index → ℕ → Verdict → Type 0
 MayTake config index next (Take text ids number) =
-    MayBeKept config index next text ids number × (number_in index.blobs ids.blob.0 ≡ None)
+    MayBeKept config index next text ids number × (number_in index.blobs ids.blob ≡ None)
 MayTake config index next (Refuse reply) = IsForDelivery reply
 
 -- The same, or a text that is to be compared may come, and this is the number of its blob id.
 abbrev pub MayTakeOrCompare : Config → Index → ℕ → Judgement → Type 0
 MayTakeOrCompare config index next (Final verdict) = MayTake config index next verdict
 MayTakeOrCompare config index next (Compare text ids number) =
-    MayCome config index text ids × (number_in index.blobs ids.blob.0 ≡ Some number)
+    MayCome config index text ids × (number_in index.blobs ids.blob ≡ Some number)
 
 -- A refusal of a message that has a storage form, by an archive that takes deliveries: it repeats a
 -- message, another text has its blob id, no number is left, or memory ran out.

@@ -37,7 +37,7 @@ impl Owner {
 #[derive(Drop)]
 pub struct Index {
     pub(crate) owners: BTreeMap<Vec<u8>, Owner>,
-    pub(crate) blobs: BTreeMap<[u8; 20], u32>,
+    pub(crate) blobs: BTreeMap<ObjectId, u32>,
 }
 
 impl Index {
@@ -91,9 +91,9 @@ impl Index {
 
     /// Returns the number of the first entry with a blob id.
     pub fn number(&self, blob: &ObjectId) -> Option<u32>
-        ensures { result ≡ number_in self.now.blobs blob.now.0 }
+        ensures { result ≡ number_in self.now.blobs blob.now }
     {
-        self.blobs.get(&blob.0).copied()
+        self.blobs.get(blob).copied()
     }
 
     /// Inserts a message. An older entry with its blob id stays the one of that blob id.
@@ -111,7 +111,7 @@ impl Index {
 
     /// Inserts a message whose blob id an older entry has.
     fn insert_id(&mut self, id: Vec<u8>, blob: ObjectId, owner: Owner) -> Result<(), NoMemory>
-        requires seen { number_in self.old.blobs blob.0 ≢ None }
+        requires seen { number_in self.old.blobs blob ≢ None }
         ensures ok { OnOk result (IndexPuts self.old self.new id.items blob owner) }
         ensures err { OnErr result (HasSame self.old self.new) }
     {
@@ -121,13 +121,13 @@ impl Index {
 
     /// Inserts a message with a new blob id.
     fn insert_both(&mut self, id: Vec<u8>, blob: ObjectId, owner: Owner) -> Result<(), NoMemory>
-        requires unseen { number_in self.old.blobs blob.0 ≡ None }
+        requires unseen { number_in self.old.blobs blob ≡ None }
         ensures ok { OnOk result (IndexPuts self.old self.new id.items blob owner) }
         ensures err { OnErr result (HasSame self.old self.new) }
     {
-        self.blobs.insert(blob.0, owner.number)?;
+        self.blobs.insert(blob, owner.number)?;
         if let Err(refused) = self.owners.insert(id, owner) {
-            let _ = self.blobs.remove(&blob.0);
+            let _ = self.blobs.remove(&blob);
             return Err(refused.into());
         }
         Ok(())
@@ -149,7 +149,7 @@ impl Index {
     {
         if let Some(found) = self.number(blob) {
             if found == number {
-                let _ = self.blobs.remove(&blob.0);
+                let _ = self.blobs.remove(blob);
             }
         }
     }

@@ -15,7 +15,7 @@ ghost use Rattle.arch_judge.specs.declared.judging.Verdict.TheVariants.{Refuse};
 
 use crate::index::Index;
 use crate::made::{made_id, with_id};
-use arch_base::{Bytes, Config, NoMemory, hex_of};
+use arch_base::{Bytes, Config, Form, NoMemory, hex_of};
 use arch_model::{Answer, Choice, Meeting, law_of_taken_texts};
 use git_objects::{blob_id, object_id};
 use mail_commits::TextIds;
@@ -148,10 +148,11 @@ fn choose_made(
 {
     law_of_taken_texts();
     let name = config.name.as_slice();
-    let digits = hex_of(&object_id(text));
+    let hex = hex_of(&object_id(text, Form::Sha1));
+    let digits = hex.as_slice();
     let last = index.len();
     for tried in 0..=last {
-        let id = made_id(alloc, &digits, tried as u64, name)?;
+        let id = made_id(alloc, digits, tried as u64, name)?;
         match index.meet(id.as_slice(), content) {
             Meeting::Free => return with_id(id.as_slice(), text, alloc),
             Meeting::Same(number) => return Ok(Choice::Repeat(number)),
@@ -174,7 +175,7 @@ fn judge_new(config: &Config, index: &Index, next: u32, text: Bytes, content: [u
     ensures formed { RefusesFormed result }
 {
     let ids = TextIds {
-        blob: blob_id(text.as_slice()),
+        blob: blob_id(text.as_slice(), Form::Sha1),
         content,
     };
     match index.number(&ids.blob) {

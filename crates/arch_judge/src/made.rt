@@ -14,7 +14,7 @@ use std::alloc::Global;
 #[tactic(auto, unfolding(arch_model::specs::Candidates::id_with))]
 pub(crate) fn made_id(
     alloc: Global,
-    digits: &[u8; 40],
+    digits: &[u8],
     count: u64,
     name: &[u8],
 ) -> Result<Bytes, NoMemory>
