@@ -1,6 +1,7 @@
 -- The lines of answers.
 use Rattle.std.specs.Prelude.{ℕ, List, [], ◌∷◌, ◌++◌, codes, decimal}
 use Rattle.hex.specs.Hex.{encode_lower}
+use Rattle.arch_base.specs.Ids.{id_bytes}
 use Rattle.arch_model.specs.Delivery.{file_words}
 use Rattle.arch_model.specs.declared.opening.OpenRefusal.{OpenRefusal}
 use Rattle.arch_model.specs.declared.opening.OpenRefusal.TheVariants as opening
@@ -23,7 +24,7 @@ disk_word = whole_line (codes "10 disk fault")
 abbrev pub unread_words : TextRefusal → List ℕ
 unread_words reading.DiskFault = disk_word
 unread_words (reading.Damaged named found) =
-    whole_line (codes "11 damaged " ++ (encode_lower named.0 ++ 32 ∷ encode_lower found.0))
+    whole_line (codes "11 damaged " ++ (encode_lower (id_bytes named) ++ 32 ∷ encode_lower (id_bytes found)))
 unread_words reading.NoMemory = memory_word
 
 -- An archive was not opened. If there is none, its root is damaged.

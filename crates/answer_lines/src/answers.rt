@@ -2,6 +2,7 @@
 //! Pure.
 ghost use Rattle.std.specs.Prelude.{◌++◌, ◌∷◌, codes, decimal};
 ghost use Rattle.hex.specs.Hex.{encode_lower};
+ghost use Rattle.arch_base.specs.Ids.{id_bytes};
 ghost use Rattle.edge_io.specs.Phrases.{SaysTo};
 ghost use Rattle.arch_model.specs.Delivery.{answer_line};
 ghost use Rattle.answer_lines.specs.Lines.{whole_line};
@@ -38,7 +39,7 @@ pub fn say_answer<O: Sink>(answer: Answer, out: &mut O) -> Result<(), SinkFault>
 /// Writes that a message was accepted: its number, and the id of its text in hexadecimal.
 fn say_accepted<O: Sink>(number: u32, id: &ObjectId, out: &mut O) -> Result<(), SinkFault>
     ensures said { SaysTo O.Sink (whole_line (codes "1 ok "
-        ++ (decimal number ++ 32 ∷ encode_lower id.now.0))) out.old out.new result }
+        ++ (decimal number ++ 32 ∷ encode_lower (id_bytes id.now)))) out.old out.new result }
     ensures sink { O.alike out.old out.new }
 {
     let mut buffer = Buffer::new();

@@ -2,6 +2,7 @@
 //! Pure.
 ghost use Rattle.std.specs.Prelude.{◌++◌, ◌∷◌, codes};
 ghost use Rattle.hex.specs.Hex.{encode_lower};
+ghost use Rattle.arch_base.specs.Ids.{id_bytes};
 ghost use Rattle.edge_io.specs.Phrases.{SaysTo};
 ghost use Rattle.answer_lines.specs.Lines.{whole_line, memory_word, disk_word, unread_words, unopened_words};
 
@@ -42,11 +43,11 @@ pub fn say_unread<O: Sink>(refusal: TextRefusal, out: &mut O) -> Result<(), Sink
 /// Writes that a text is damaged: its id, and the id of the bytes found in its place.
 fn say_other_text<O: Sink>(named: &ObjectId, found: &ObjectId, out: &mut O) -> Result<(), SinkFault>
     ensures said { SaysTo O.Sink (whole_line (codes "11 damaged "
-        ++ (encode_lower named.now.0 ++ 32 ∷ encode_lower found.now.0))) out.old out.new result }
+        ++ (encode_lower (id_bytes named.now) ++ 32 ∷ encode_lower (id_bytes found.now)))) out.old out.new result }
     ensures sink { O.alike out.old out.new }
 {
     say(b"11 damaged ", out)?;
-    say(&hex_of(named), out)?;
+    say(hex_of(named).as_slice(), out)?;
     say_id(found, out)
 }
 
