@@ -3,6 +3,7 @@
 use Rattle.std.specs.Prelude.{◌≡◌, ◌≤◌, ◌⊎◌, ℕ, List, ◌∷◌, ◌++◌, codes, decimal, Result}
 use Rattle.hex.specs.Hex.{encode_lower}
 use Rattle.arch_base.specs.Counts.{Rose}
+use Rattle.arch_base.specs.Ids.{id_bytes}
 use Rattle.arch_model.specs.Delivery.{file_words}
 use Rattle.arch_model.specs.declared.opening.OpenRefusal.{OpenRefusal}
 use Rattle.arch_model.specs.declared.opening.OpenRefusal.TheVariants as opening
@@ -27,7 +28,7 @@ disk_line code = code ++ crlf_line (codes "disk fault")
 abbrev pub unread_line : List ℕ → TextRefusal → List ℕ
 unread_line code reading.DiskFault = disk_line code
 unread_line code (reading.Damaged named found) = code ++ (codes "damaged "
-    ++ (encode_lower named.0 ++ (32 ∷ crlf_line (encode_lower found.0))))
+    ++ (encode_lower (id_bytes named) ++ (32 ∷ crlf_line (encode_lower (id_bytes found)))))
 unread_line code reading.NoMemory = memory_line code
 
 -- Why the archive was not opened. If there is none, its root is damaged.

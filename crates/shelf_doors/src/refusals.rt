@@ -70,7 +70,12 @@ pub fn say_unread<'a, O: Sink>(
     match refusal {
         TextRefusal::DiskFault => say_disk_fault(code, out),
         TextRefusal::Damaged { named, found } => {
-            say_damaged(code, &hex_of(&named), &hex_of(&found), out)
+            say_damaged(
+                code,
+                hex_of(&named).as_slice(),
+                hex_of(&found).as_slice(),
+                out,
+            )
         }
         TextRefusal::NoMemory => say_memory(code, out),
     }
