@@ -2,6 +2,7 @@
 use Rattle.std.specs.Prelude.{◌≡◌, ◌≤◌, ℕ, Bool, List, [], ◌∷◌, slice_get, Option, Some, None, Ok, Err}
 use Rattle.std.specs.Str.{bytes_eq}
 use Rattle.std.proofs.Common.{◌∙◌, inr}
+use Rattle.arch_base.specs.declared.ids.Form.TheVariants as form
 use Rattle.disk_model.specs.Disk.{Files, Content, BothTold, WhereTold, Unchanged, bytes_of}
 use Rattle.arch_model.specs.Archives.{Entry}
 use Rattle.number_map.specs.declared.line.Record.{Record}
@@ -38,7 +39,7 @@ both_read root v epoch seen index older old new same before mid among blob kept 
 -- Whatever was joined before, and whatever entries an epoch's file has, some have joined.
 abbrev pub Come : Root → JoinedEntries → ℕ → List Seen → JoinedEntries → List Seen → Files → Type 0
 Come root old epoch seen cur left files =
-    (rs after : List Record) (others : List Entry) (here : List EpochEntry) → HoldsJoined old rs after others → AreWhole root files epoch others → Fronts (epoch_of here) (files (epoch_file_of root epoch)) → AreEpochEntries here → seen ≡ seen_from 8 None here
+    (rs after : List Record) (others : List Entry) (here : List EpochEntry) → HoldsJoined old rs after others → AreWhole root files epoch others → Fronts (epoch_of form.Sha1 here) (files (epoch_file_of root epoch)) → AreEpochEntries here → seen ≡ seen_from form.Sha1 8 None here
     → Comes cur left rs others epoch here
 
 pub come_first : (root : Root) (old : JoinedEntries) (epoch : ℕ) (seen left : List Seen) (files : Files) → AreBefore epoch old.entries → left ≡ seen → Come root old epoch seen old left files

@@ -83,24 +83,24 @@ in_epoch-other : (es : List Entry) (new : Entry) (epoch : ℕ) → new.epoch ≢
 in_epoch-other es new epoch apart = filter-append (λ (e : Entry). e.epoch == epoch) es (new ∷ []) ∙ (rw (other_test new.epoch epoch apart) refl ∙ append-nil (in_epoch es epoch))
 
 -- The bytes of entries with one appended.
-entries_more : (parent : Option ObjectId) (es : List Entry) (new : Entry) → entries_bytes parent (es ++ new ∷ []) ≡ entries_bytes parent es ++ bytes_after (last_commit parent es) (in_file new)
-entries_more parent [] new = append-nil (bytes_after parent (in_file new))
+entries_more : (parent : Option ObjectId) (es : List Entry) (new : Entry) → entries_bytes parent (es ++ new ∷ []) ≡ entries_bytes parent es ++ bytes_after form.Sha1 (last_commit parent es) (in_file new)
+entries_more parent [] new = append-nil (bytes_after form.Sha1 parent (in_file new))
 entries_more parent (e ∷ es) new =
     let next : Option ObjectId = Some (commit_id form.Sha1 e.kind e.text e.moment parent) in
     ap (λ (b : List ℕ). entry_bytes form.Sha1 e.kind e.text e.moment parent ++ b) (entries_more next es new)
-    ∙ sym (append_assoc (entry_bytes form.Sha1 e.kind e.text e.moment parent) (entries_bytes next es) (bytes_after (last_commit next es) (in_file new)))
+    ∙ sym (append_assoc (entry_bytes form.Sha1 e.kind e.text e.moment parent) (entries_bytes next es) (bytes_after form.Sha1 (last_commit next es) (in_file new)))
 
 -- The bytes of an epoch with one more entry.
-epoch_more : (es : List Entry) (new : Entry) → epoch_bytes (es ++ new ∷ []) ≡ epoch_bytes es ++ (front_at (length (epoch_bytes es)) ++ bytes_after (last_commit None es) (in_file new))
-epoch_more [] new = ap (λ (b : List ℕ). magic form.Sha1 ++ b) (append-nil (bytes_after None (in_file new)))
+epoch_more : (es : List Entry) (new : Entry) → epoch_bytes (es ++ new ∷ []) ≡ epoch_bytes es ++ (front_at form.Sha1 (length (epoch_bytes es)) ++ bytes_after form.Sha1 (last_commit None es) (in_file new))
+epoch_more [] new = ap (λ (b : List ℕ). magic form.Sha1 ++ b) (append-nil (bytes_after form.Sha1 None (in_file new)))
 epoch_more (e ∷ es) new =
     let all = entries_bytes None (e ∷ es) in
-    let more = bytes_after (last_commit None (e ∷ es)) (in_file new) in
+    let more = bytes_after form.Sha1 (last_commit None (e ∷ es)) (in_file new) in
     let size = length-append (magic form.Sha1) all in
     let there : (length (magic form.Sha1 ++ all) == 0) ≡ false = other_test (length (magic form.Sha1 ++ all)) 0 (λ none. absurd (omega (arith, size, none))) in
     ap (λ (b : List ℕ). magic form.Sha1 ++ b) (entries_more None (e ∷ es) new) ∙ (sym (append_assoc (magic form.Sha1) all more) ∙ ap (λ (b : Bool). (magic form.Sha1 ++ all) ++ ((if b then magic form.Sha1 else []) ++ more)) (sym there))
 
-pub bytes_here : (a : Archive) (new : Entry) → epoch_bytes (in_epoch (a.entries ++ new ∷ []) new.epoch) ≡ bytes_in a new.epoch ++ (front_at (length (bytes_in a new.epoch)) ++ bytes_after (last_commit None (in_epoch a.entries new.epoch)) (in_file new))
+pub bytes_here : (a : Archive) (new : Entry) → epoch_bytes (in_epoch (a.entries ++ new ∷ []) new.epoch) ≡ bytes_in a new.epoch ++ (front_at form.Sha1 (length (bytes_in a new.epoch)) ++ bytes_after form.Sha1 (last_commit None (in_epoch a.entries new.epoch)) (in_file new))
 bytes_here a new = ap epoch_bytes (in_epoch-here a.entries new new.epoch refl) ∙ epoch_more (in_epoch a.entries new.epoch) new
 
 pub bytes_other : (a : Archive) (new : Entry) (epoch : ℕ) → new.epoch ≢ epoch → epoch_bytes (in_epoch (a.entries ++ new ∷ []) epoch) ≡ bytes_in a epoch

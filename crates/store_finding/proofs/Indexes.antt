@@ -8,6 +8,8 @@ use Rattle.std.specs.Ordering.{nat_cmp}
 use Rattle.std.specs.Cmp.Lexicographic.{slice_cmp}
 use Rattle.std.proofs.Common.{◌∙◌, sym, ap, subst, arith, length-append, Some}
 use Rattle.arch_base.specs.declared.ids.Form.TheVariants as form
+use Rattle.arch_base.specs.Ids.{id_cmp}
+use Rattle.arch_base.specs.declared.ids.ObjectId.{ObjectId}
 use Rattle.git_objects.specs.Objects.{blob_id_of}
 use Rattle.git_objects.specs.declared.entry_kind.EntryKind.{EntryKind}
 use Rattle.git_objects.specs.declared.entry_kind.EntryKind.TheVariants.{Message, Deletion}
@@ -33,7 +35,7 @@ use Rattle.store_finding.proofs.Firsts.{all_last, all_front, rise_front, place_f
 pub indexes_none : (index : Index) → index.owners.entries ≡ [] → index.blobs.entries ≡ [] → IndexesStored [] index
 indexes_none index no_owners no_blobs [] are = record {
   owners = λ id. ap (λ (l : List (Vec ℕ × Owner)). lookup (is_at (λ (k : Vec ℕ). slice_cmp nat_cmp id k.items)) l) no_owners;
-  blobs = λ blob. ap (λ (l : List (List ℕ × ℕ)). lookup (is_at (λ (k : List ℕ). slice_cmp nat_cmp blob k)) l) no_blobs;
+  blobs = λ blob. ap (λ (l : List (ObjectId × ℕ)). lookup (is_at (id_cmp blob)) l) no_blobs;
 }
 indexes_none index no_owners no_blobs (e ∷ es) are = absurd (let wrong : [] ≡ stored_at [] e ∷ stored_after (e ∷ []) es = are.is in cc)
 

@@ -4,12 +4,14 @@ use Rattle.std.specs.List.{AllByRecursion, filter}
 use Rattle.std.specs.Str.{bytes_eq}
 use Rattle.std.proofs.Common.{◌∙◌, sym, ap, subst, inl, inr, arith, append_assoc, length-append}
 use Rattle.std.proofs.lemmas.List.{append-nil}
-use Rattle.std.proofs.lemmas.Slice.Eq.{bytes_eq-Decides}
 use Rattle.std.proofs.lemmas.List.Elements.{filter-append}
 use Rattle.std.proofs.lemmas.Bool.{cases_lt}
 use Rattle.std.proofs.lemmas.Bool.Decides.{nat_tests}
 use Rattle.arch_base.specs.declared.ids.ObjectId.{ObjectId}
 use Rattle.arch_base.specs.declared.ids.Form.TheVariants as form
+use Rattle.arch_base.specs.Ids.{id_eq}
+use Rattle.arch_base.specs.contracts.ids.ObjectIdPartialEq.TheImpl as code
+use Rattle.arch_base.proofs.IdOrder.{id_eq-Decides, id_eq-refl}
 use Rattle.git_objects.specs.Objects.{blob_id_of}
 use Rattle.git_objects.specs.declared.entry_kind.EntryKind.{EntryKind}
 use Rattle.git_objects.specs.declared.entry_kind.EntryKind.TheVariants.{Message, Deletion}
@@ -44,6 +46,7 @@ use Rattle.store_finding.proofs.Growing.{stored_more}
 use Rattle.store_finding.proofs.Indexes.{index_held}
 use Rattle.store_finding.proofs.Lasts.{none_in, last_commit_is}
 use Rattle.store_finding.proofs.TextBytes.{divided_reads, epoch_text, in_fronts, in_epoch_split}
+use Rattle.store_finding.proofs.SameIds.{same_ids}
 use Rattle.store_finding.proofs.Live.{own_of, there, Apart, kept_count, apart_by, owner_all, owner_text, found_owner, lone_text, Ascends, live_ascends, messages_ascend, bytes_same, bytes_yes}
 use Rattle.store_finding.proofs.Firsts.{FitsKind, with_record, all_last, delivered_joined, first_is, first_none, first_more, first_less, fits_last, blobs_last, record_after, map_after, stored_before}
 
@@ -81,12 +84,12 @@ found_at v xs i r records entries less is = (λ j. slice_get (sym records j) (sy
 pub none_at : (v : JoinedEntries) (xs : List Record) (i : ℕ) → xs ≡ v.records → i ≡ message_count v.entries → length xs ≤ i → slice_get v.records (message_count v.entries) ≡ None
 none_at v xs i records entries less = (λ j. slice_get (sym records j) (sym entries j)) ∙ got_none xs i less
 
--- Two ids differ if their bytes do.
-pub blobs_differ : (a b : ObjectId) (t : Bool) → t ≡ not (bytes_eq a.0 b.0) → t ≡ true → a ≢ b
-blobs_differ a b t is yes_it same = let equal : bytes_eq a.0 b.0 ≡ true = (bytes_eq-Decides a.0 b.0).1 (ap (λ (i : ObjectId). i.0) same) in let wrong : false ≡ true = ap not (sym equal) ∙ (sym is ∙ yes_it) in cc
+-- Two ids differ if they compare so.
+pub blobs_differ : (a b : ObjectId) (t : Bool) → t ≡ not (code.ghosts.eq a b) → t ≡ true → a ≢ b
+blobs_differ a b t is yes_it same = let equal : id_eq a b ≡ true = (id_eq-Decides a b).1 same in let wrong : false ≡ true = ap not (sym (same_ids a b ∙ equal)) ∙ (sym is ∙ yes_it) in cc
 
-pub blobs_same : (a b : ObjectId) (t : Bool) → t ≡ not (bytes_eq a.0 b.0) → t ≡ false → a ≡ b
-blobs_same a b t is no_way = ap (λ (l : List ℕ). let i : ObjectId = record { 0 = l } in i) ((bytes_eq-Decides a.0 b.0).0 (not_false (bytes_eq a.0 b.0) (sym is ∙ no_way))) where
+pub blobs_same : (a b : ObjectId) (t : Bool) → t ≡ not (code.ghosts.eq a b) → t ≡ false → a ≡ b
+blobs_same a b t is no_way = (id_eq-Decides a b).0 (not_false (id_eq a b) (ap not (sym (same_ids a b)) ∙ (sym is ∙ no_way))) where
   not_false : (d : Bool) → not d ≡ false → d ≡ true
   not_false true e = refl
   not_false false e = absurd (let wrong : true ≡ false = e in cc)
@@ -134,7 +137,7 @@ all_joined P [] ys one two = two
 all_joined P (x ∷ xs) ys one two = (one.0, all_joined P xs ys one.1 two)
 
 -- The bytes of entries with one appended.
-pub size_more : (parent : Option ObjectId) (es : List Entry) (e : Entry) → length (entries_bytes parent (es ++ e ∷ [])) ≡ length (entries_bytes parent es) + length (bytes_after (last_commit parent es) (in_file e))
+pub size_more : (parent : Option ObjectId) (es : List Entry) (e : Entry) → length (entries_bytes parent (es ++ e ∷ [])) ≡ length (entries_bytes parent es) + length (bytes_after form.Sha1 (last_commit parent es) (in_file e))
 size_more parent [] e = omega (arith, length-append (entry_bytes form.Sha1 e.kind e.text e.moment parent) [])
 size_more parent (f ∷ es) e =
     let next : Option ObjectId = Some (commit_id form.Sha1 f.kind f.text f.moment parent) in
@@ -143,7 +146,7 @@ size_more parent (f ∷ es) e =
 
 -- What is recorded of one more entry of an epoch.
 abbrev pub seen_next : List Entry → EpochEntry → Seen
-seen_next more x = seen_at (8 + length (entries_bytes None more)) (last_commit None more) x
+seen_next more x = seen_at form.Sha1 (8 + length (entries_bytes None more)) (last_commit None more) x
 
 -- An entry of an epoch's file with a number.
 abbrev pub as_entry : ℕ → ℕ → EpochEntry → Entry
@@ -261,12 +264,12 @@ module _ (v : JoinedEntries) (index : Index) (seen : Seen) (o : Owner) (s : Stor
       apart (its_blob rs after all holds it ∙ (ap (λ (e : Entry). blob_id_of form.Sha1 e.text) same ∙ joins.blob))
 
 -- If no entry has its blob id, a text agrees with all.
-no_blob : (es : List Entry) (text : List ℕ) → blob_number es (blob_id_of form.Sha1 text).0 ≡ None → Agrees text es
+no_blob : (es : List Entry) (text : List ℕ) → blob_number es (blob_id_of form.Sha1 text) ≡ None → Agrees text es
 no_blob [] text none = tt
-no_blob (e ∷ es) text none = by (bytes_eq (blob_id_of form.Sha1 text).0 (blob_id_of form.Sha1 e.text).0) refl none (no_blob es text) where
-  by : (t : Bool) → bytes_eq (blob_id_of form.Sha1 text).0 (blob_id_of form.Sha1 e.text).0 ≡ t → (if t then Some e.number else blob_number es (blob_id_of form.Sha1 text).0) ≡ None → (blob_number es (blob_id_of form.Sha1 text).0 ≡ None → Agrees text es) → Agrees text (e ∷ es)
+no_blob (e ∷ es) text none = by (id_eq (blob_id_of form.Sha1 text) (blob_id_of form.Sha1 e.text)) refl none (no_blob es text) where
+  by : (t : Bool) → id_eq (blob_id_of form.Sha1 text) (blob_id_of form.Sha1 e.text) ≡ t → (if t then Some e.number else blob_number es (blob_id_of form.Sha1 text)) ≡ None → (blob_number es (blob_id_of form.Sha1 text) ≡ None → Agrees text es) → Agrees text (e ∷ es)
   by true test is more = absurd (let wrong : Some e.number ≡ None = is in cc)
-  by false test is more = (λ same. absurd (let yes_it = bytes_yes (blob_id_of form.Sha1 text).0 (blob_id_of form.Sha1 e.text).0 (ap (λ (i : ObjectId). i.0) same) in let wrong : true ≡ false = sym yes_it ∙ test in cc), more is)
+  by false test is more = (λ same. absurd (let yes_it = id_eq-refl (blob_id_of form.Sha1 text) (blob_id_of form.Sha1 e.text) same in let wrong : true ≡ false = sym yes_it ∙ test in cc), more is)
 
 text_among : (front : List Entry) (e : Entry) (behind : List Entry) (text : List ℕ) → e.text ≡ text → HasText text (front ++ e ∷ behind)
 text_among [] e behind text is = inl is
@@ -284,7 +287,7 @@ pub record AgreesIf (same : Bool) (text : List ℕ) (all : List Entry) : Type 0 
 compared : (root : Root) (files : Files) (cur : JoinedEntries) (rs after : List Record) (epoch : ℕ) (all : List Entry) (x : EpochEntry) (s : Seen) (rest : List Entry) (same : Bool) → HoldsJoined cur rs after all → s ≡ seen_next (in_epoch all epoch) x
     → IsSameText root files cur all epoch s same → AllByRecursion (λ (e : Entry). e.epoch ≤ epoch) all → AreThere root files epoch (all ++ as_entry 0 epoch x ∷ rest) → AgreesIf same x.text all
 compared root files cur rs after epoch all x s rest same holds seen (inl none) older stand =
-    record { agrees = λ yes_it. no_blob all x.text (ap (λ (t : Seen). blob_number all t.blob.0) (sym seen) ∙ none.0); yes_it = λ agrees. none.1 }
+    record { agrees = λ yes_it. no_blob all x.text (ap (λ (t : Seen). blob_number all t.blob) (sym seen) ∙ none.0); yes_it = λ agrees. none.1 }
 compared root files cur rs after epoch all x s rest same holds seen (inr one) older stand =
     let f = kept_one [] all one.index one.older (ap (λ (l : List StoredEntry). slice_get l one.index) (sym holds.entries_are) ∙ one.among) in
     let e = f.entry in
@@ -415,11 +418,11 @@ pub record Comes (cur : JoinedEntries) (left : List Seen) (rs : List Record) (ot
   pub stand : AllByRecursion (λ (e : Entry). e.epoch ≡ epoch) more
   pub are : here ≡ map in_file more ++ rest
   pub valid : AreEpochEntries rest
-  pub seen : left ≡ seen_from (8 + length (entries_bytes None more)) (last_commit None more) rest
+  pub seen : left ≡ seen_from form.Sha1 (8 + length (entries_bytes None more)) (last_commit None more) rest
   pub holds : HoldsJoined cur rs after (others ++ more)
 
 -- No entry has joined yet.
-pub comes_first : (cur : JoinedEntries) (left : List Seen) (rs after : List Record) (others : List Entry) (epoch : ℕ) (here : List EpochEntry) → AreBefore epoch cur.entries → HoldsJoined cur rs after others → AreEpochEntries here → left ≡ seen_from 8 None here
+pub comes_first : (cur : JoinedEntries) (left : List Seen) (rs after : List Record) (others : List Entry) (epoch : ℕ) (here : List EpochEntry) → AreBefore epoch cur.entries → HoldsJoined cur rs after others → AreEpochEntries here → left ≡ seen_from form.Sha1 8 None here
     → Comes cur left rs others epoch here
 comes_first cur left rs after others epoch here before holds valid seen = record {
   more = [];
@@ -439,12 +442,12 @@ record Begins (left : List Seen) (s : Seen) (after : List Seen) (more : List Ent
   others : List EpochEntry
   are : rest ≡ x ∷ others
   first : s ≡ seen_next more x
-  seen_after : after ≡ seen_from (8 + length (entries_bytes None more) + length (bytes_after (last_commit None more) x)) (Some (commit_after (last_commit None more) x)) others
+  seen_after : after ≡ seen_from form.Sha1 (8 + length (entries_bytes None more) + length (bytes_after form.Sha1 (last_commit None more) x)) (Some (commit_after form.Sha1 (last_commit None more) x)) others
 
-begins : (left : List Seen) (s : Seen) (after : List Seen) (more : List Entry) (rest : List EpochEntry) → left ≡ s ∷ after → left ≡ seen_from (8 + length (entries_bytes None more)) (last_commit None more) rest → Begins left s after more rest
+begins : (left : List Seen) (s : Seen) (after : List Seen) (more : List Entry) (rest : List EpochEntry) → left ≡ s ∷ after → left ≡ seen_from form.Sha1 (8 + length (entries_bytes None more)) (last_commit None more) rest → Begins left s after more rest
 begins left s after more [] is seen = absurd (let wrong : s ∷ after ≡ [] = sym is ∙ seen in cc)
 begins left s after more (x ∷ others) is seen =
-    let tail = seen_from (8 + length (entries_bytes None more) + length (bytes_after (last_commit None more) x)) (Some (commit_after (last_commit None more) x)) others in
+    let tail = seen_from form.Sha1 (8 + length (entries_bytes None more) + length (bytes_after form.Sha1 (last_commit None more) x)) (Some (commit_after form.Sha1 (last_commit None more) x)) others in
     let both : s ∷ after ≡ seen_next more x ∷ tail = sym is ∙ seen in
     record { x = x; others = others; are = refl; first = cc; seen_after = cc }
 
@@ -465,9 +468,9 @@ all_out (e ∷ es) epoch other apart all =
     let test : (e.epoch == other) ≡ false = (let is : e.epoch ≡ epoch = all.0 in grind (arith, nat_tests)) in
     rw test (all_out es epoch other apart all.1)
 
-files_chain : (parent : Option ObjectId) (es : List Entry) → entries_bytes parent es ≡ chain parent (map in_file es)
+files_chain : (parent : Option ObjectId) (es : List Entry) → entries_bytes parent es ≡ chain form.Sha1 parent (map in_file es)
 files_chain parent [] = refl
-files_chain parent (e ∷ es) = ap (λ (b : List ℕ). bytes_after parent (in_file e) ++ b) (files_chain (Some (commit_after parent (in_file e))) es)
+files_chain parent (e ∷ es) = ap (λ (b : List ℕ). bytes_after form.Sha1 parent (in_file e) ++ b) (files_chain (Some (commit_after form.Sha1 parent (in_file e))) es)
 
 files_joined : (xs ys : List Entry) → map in_file (xs ++ ys) ≡ map in_file xs ++ map in_file ys
 files_joined [] ys = refl
@@ -478,7 +481,7 @@ there_some [] e rest = refl
 there_some (f ∷ more) e rest = refl
 
 stand_there : (root : Root) (files : Files) (epoch : ℕ) (others more : List Entry) (x : EpochEntry) (rest : List EpochEntry) (here : List EpochEntry) → AllByRecursion (λ (e : Entry). e.epoch ≡ epoch) more → AreWhole root files epoch others
-    → Fronts (epoch_of here) (files (epoch_file_of root epoch)) → here ≡ map in_file more ++ x ∷ rest → AreThere root files epoch ((others ++ more) ++ as_entries epoch (x ∷ rest))
+    → Fronts (epoch_of form.Sha1 here) (files (epoch_file_of root epoch)) → here ≡ map in_file more ++ x ∷ rest → AreThere root files epoch ((others ++ more) ++ as_entries epoch (x ∷ rest))
 stand_there root files epoch others more x rest here stand whole fronts are = λ d most. elim (below_or_at d most) [
   | inl less ↦ subst (λ (l : List Entry). Fronts (epoch_bytes l) (files (epoch_file_of root d))) (sym (under d less)) (whole.fronts d less)
   | inr same ↦ subst (λ (n : ℕ). Fronts (epoch_bytes (in_epoch all n)) (files (epoch_file_of root n))) (sym same) at_it
@@ -502,8 +505,8 @@ stand_there root files epoch others more x rest here stand whole fronts are = λ
   under d less = ap (λ (l : List Entry). in_epoch l d) (append_assoc others more tail)
       ∙ (filter-append (λ (e : Entry). e.epoch == d) others (more ++ tail) ∙ (ap (λ (l : List Entry). in_epoch others d ++ l) (all_out (more ++ tail) epoch d (λ is. absurd (omega (arith, less, is))) both) ∙ append-nil (in_epoch others d)))
 
-  bytes : epoch_of here ≡ epoch_bytes (more ++ tail)
-  bytes = ap (λ (l : List EpochEntry). magic form.Sha1 ++ chain None l) (are ∙ (ap (λ (l : List EpochEntry). map in_file more ++ l) (sym (as_filed epoch (x ∷ rest))) ∙ sym (files_joined more tail)))
+  bytes : epoch_of form.Sha1 here ≡ epoch_bytes (more ++ tail)
+  bytes = ap (λ (l : List EpochEntry). magic form.Sha1 ++ chain form.Sha1 None l) (are ∙ (ap (λ (l : List EpochEntry). map in_file more ++ l) (sym (as_filed epoch (x ∷ rest))) ∙ sym (files_joined more tail)))
       ∙ (ap (λ (b : List ℕ). magic form.Sha1 ++ b) (sym (files_chain None (more ++ tail))) ∙ sym (there_some more (as_entry 0 epoch x) (as_entries epoch rest)))
 
   at_it : Fronts (epoch_bytes (in_epoch all epoch)) (files (epoch_file_of root epoch))
@@ -511,7 +514,7 @@ stand_there root files epoch others more x rest here stand whole fronts are = λ
       (subst (λ (b : List ℕ). Fronts b (files (epoch_file_of root epoch))) bytes fronts)
 
 -- The next entry was compared.
-come_texts : (root : Root) (files : Files) (cur : JoinedEntries) (left : List Seen) (s : Seen) (after : List Seen) (rs : List Record) (others : List Entry) (epoch : ℕ) (here : List EpochEntry) (same : Bool) → AreWhole root files epoch others → Fronts (epoch_of here) (files (epoch_file_of root epoch))
+come_texts : (root : Root) (files : Files) (cur : JoinedEntries) (left : List Seen) (s : Seen) (after : List Seen) (rs : List Record) (others : List Entry) (epoch : ℕ) (here : List EpochEntry) (same : Bool) → AreWhole root files epoch others → Fronts (epoch_of form.Sha1 here) (files (epoch_file_of root epoch))
     → (comes : Comes cur left rs others epoch here) → (begin : Begins left s after comes.more comes.rest) → IsSameText root files cur (others ++ comes.more) epoch s same → AgreesIf same begin.x.text (others ++ comes.more)
 come_texts root files cur left s after rs others epoch here same whole fronts comes begin texts =
     let all = others ++ comes.more in
@@ -521,7 +524,7 @@ come_texts root files cur left s after rs others epoch here same whole fronts co
 
 -- One more entry joins.
 pub comes_more : (root : Root) (files : Files) (cur new : JoinedEntries) (left : List Seen) (s : Seen) (after : List Seen) (rs : List Record) (others : List Entry) (epoch number : ℕ) (here : List EpochEntry) (same : Bool) → epoch ≤ 63 → AreWhole root files epoch others
-    → Fronts (epoch_of here) (files (epoch_file_of root epoch)) → Comes cur left rs others epoch here → left ≡ s ∷ after
+    → Fronts (epoch_of form.Sha1 here) (files (epoch_file_of root epoch)) → Comes cur left rs others epoch here → left ≡ s ∷ after
     → OfJoined cur (λ (all : List Entry). IsSameText root files cur all epoch s same) → OfJoined cur (λ (all : List Entry). JoinsNext cur all epoch s same number) → new ≡ with_seen cur number epoch s → Comes new after rs others epoch here
 comes_more root files cur new left s after rs others epoch number here same small whole fronts comes is texts joining new_is =
     let begin = begins left s after comes.more comes.rest is comes.seen in
@@ -535,11 +538,11 @@ comes_more root files cur new left s after rs others epoch number here same smal
     let goes = joined_goes cur rs comes.after all epoch number begin.x s comes.holds parts.0 seen agree joins.1 in
     let one = one_more cur new rs comes.after all epoch number begin.x s comes.holds small older parts.0 seen agree goes new_is in
     let more = comes.more ++ one.entry ∷ [] in
-    let offset : 8 + length (entries_bytes None comes.more) + length (bytes_after (last_commit None comes.more) begin.x) ≡ 8 + length (entries_bytes None more) =
-    ap (λ (x : EpochEntry). 8 + length (entries_bytes None comes.more) + length (bytes_after (last_commit None comes.more) x)) (sym one.file_is)
+    let offset : 8 + length (entries_bytes None comes.more) + length (bytes_after form.Sha1 (last_commit None comes.more) begin.x) ≡ 8 + length (entries_bytes None more) =
+    ap (λ (x : EpochEntry). 8 + length (entries_bytes None comes.more) + length (bytes_after form.Sha1 (last_commit None comes.more) x)) (sym one.file_is)
     ∙ (let size = size_more None comes.more one.entry in omega (arith, size)) in
-    let parent : Some (commit_after (last_commit None comes.more) begin.x) ≡ last_commit None more =
-    ap (λ (x : EpochEntry). Some (commit_after (last_commit None comes.more) x)) (sym one.file_is) ∙ sym (last_commit_is None comes.more one.entry) in
+    let parent : Some (commit_after form.Sha1 (last_commit None comes.more) begin.x) ≡ last_commit None more =
+    ap (λ (x : EpochEntry). Some (commit_after form.Sha1 (last_commit None comes.more) x)) (sym one.file_is) ∙ sym (last_commit_is None comes.more one.entry) in
     record {
       more = more;
       rest = begin.others;
@@ -548,7 +551,7 @@ comes_more root files cur new left s after rs others epoch number here same smal
       stand = all_after (λ (e : Entry). e.epoch ≡ epoch) comes.more one.entry comes.stand one.epoch_is;
       are = comes.are ∙ (ap (λ (l : List EpochEntry). map in_file comes.more ++ l) begin.are ∙ (ap (λ (x : EpochEntry). map in_file comes.more ++ x ∷ begin.others) (sym one.file_is) ∙ sym (map_after in_file comes.more one.entry begin.others)));
       valid = parts.1;
-      seen = begin.seen_after ∙ (λ i. seen_from (offset i) (parent i) begin.others);
+      seen = begin.seen_after ∙ (λ i. seen_from form.Sha1 (offset i) (parent i) begin.others);
       holds = subst (HoldsJoined new rs one.left) (append_assoc others comes.more (one.entry ∷ [])) one.holds;
     }
 
@@ -561,13 +564,13 @@ all_come cur left rs others epoch here comes none = record {
   are = comes.are ∙ (ap (λ (l : List EpochEntry). map in_file comes.more ++ l) (no_rest comes.rest (sym comes.seen ∙ none)) ∙ append-nil (map in_file comes.more));
   holds = comes.holds;
 } where
-  no_rest : (rest : List EpochEntry) → seen_from (8 + length (entries_bytes None comes.more)) (last_commit None comes.more) rest ≡ [] → rest ≡ []
+  no_rest : (rest : List EpochEntry) → seen_from form.Sha1 (8 + length (entries_bytes None comes.more)) (last_commit None comes.more) rest ≡ [] → rest ≡ []
   no_rest [] is = refl
   no_rest (x ∷ xs) is = absurd (cc)
 
 -- The next entry can't join.
 pub stops : (root : Root) (files : Files) (cur : JoinedEntries) (left : List Seen) (s : Seen) (after : List Seen) (rs : List Record) (others : List Entry) (epoch offset : ℕ) (here : List EpochEntry) (same : Bool) → AreWhole root files epoch others
-    → Fronts (epoch_of here) (files (epoch_file_of root epoch)) → Comes cur left rs others epoch here → left ≡ s ∷ after → OfJoined cur (λ (all : List Entry). IsSameText root files cur all epoch s same)
+    → Fronts (epoch_of form.Sha1 here) (files (epoch_file_of root epoch)) → Comes cur left rs others epoch here → left ≡ s ∷ after → OfJoined cur (λ (all : List Entry). IsSameText root files cur all epoch s same)
     → offset ≡ s.at → OfJoined cur (λ (all : List Entry). (number : ℕ) → JoinsNext cur all epoch s same number → ⊥) → StopsAt rs others epoch here offset
 stops root files cur left s after rs others epoch offset here same whole fronts comes is texts at none =
     let begin = begins left s after comes.more comes.rest is comes.seen in
@@ -591,7 +594,7 @@ stops root files cur left s after rs others epoch offset here same whole fronts 
 
 -- What an error then says.
 pub joins_or_stops : (root : Root) (files : Files) (cur : JoinedEntries) (left : List Seen) (s : Seen) (after : List Seen) (rs : List Record) (others : List Entry) (epoch : ℕ) (here : List EpochEntry) (refusal : JoinRefusal) → AreWhole root files epoch others
-    → Fronts (epoch_of here) (files (epoch_file_of root epoch)) → Comes cur left rs others epoch here → left ≡ s ∷ after → JoinsByText root cur epoch s (Err refusal) files → JoinsAll rs others epoch here (Err refusal)
+    → Fronts (epoch_of form.Sha1 here) (files (epoch_file_of root epoch)) → Comes cur left rs others epoch here → left ≡ s ∷ after → JoinsByText root cur epoch s (Err refusal) files → JoinsAll rs others epoch here (Err refusal)
 joins_or_stops root files cur left s after rs others epoch here NoMemory whole fronts comes is joins = tt
 joins_or_stops root files cur left s after rs others epoch here DiskFault whole fronts comes is joins = tt
 joins_or_stops root files cur left s after rs others epoch here (Damaged offset) whole fronts comes is joins =

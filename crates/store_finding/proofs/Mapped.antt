@@ -1,5 +1,5 @@
 -- The records of an archive are valid, and fill their map.
-use Rattle.std.specs.Prelude.{◌≡◌, ◌+◌, ◌-◌, ◌*◌, ◌==◌, ℕ, zero, suc, Bool, true, false, List, [], ◌∷◌, length, replicate, Option, Some, None, if◌then◌else◌, unwrap_or, refl}
+use Rattle.std.specs.Prelude.{◌≡◌, ◌+◌, ◌-◌, ◌*◌, ◌==◌, ℕ, zero, suc, Bool, true, false, List, [], ◌∷◌, length, Option, Some, None, if◌then◌else◌, unwrap_or, refl}
 use Rattle.std.specs.List.{AllByRecursion}
 use Rattle.std.proofs.Common.{◌∙◌, ap, subst, inl, inr, arith}
 use Rattle.std.proofs.lemmas.Grind.{common_steps}
@@ -9,14 +9,14 @@ use Rattle.git_objects.specs.Objects.{blob_spelling}
 use Rattle.git_objects.proofs.ObjectIds.{IsObjectId-id_of}
 use Rattle.arch_model.specs.Archives.{Entry, Archive, messages}
 use Rattle.arch_model.proofs.LiveEntries.{messages-all}
-use Rattle.number_map.specs.Records.{IsRecord, AreRecordsFrom}
+use Rattle.number_map.specs.Records.{IsRecord, AreRecordsFrom, zero_id}
 use Rattle.number_map.specs.Sizes.{records_length}
 use Rattle.arch_model.specs.Validity.{IsEntry, IsArchive}
 use Rattle.store_finding.specs.Recovery.{entry_of, record_for, records_from, records_of, map_bytes}
 
 -- Twenty zeros are an id.
-zero_id : IsObjectId form.Sha1 (record { 0 = replicate 20 0 })
-zero_id form.Sha1 = record { len = refl; bytes = λ k. grind (arith, common_steps) }
+zero_valid : IsObjectId form.Sha1 (zero_id form.Sha1)
+zero_valid = record { form_is = refl; len = refl; bytes = λ k. grind (arith, common_steps) }
 
 -- What holds of both alternatives holds of the chosen one.
 chosen : (P : Entry → Type 0) (f e : Entry) (b : Bool) (rest : Option Entry) → P f → (rest ≡ Some e → P e) → (if b then Some f else rest) ≡ Some e → P e
@@ -30,8 +30,8 @@ found_entry P (f ∷ es) n all e is = chosen P f e (f.number == n) (entry_of es 
 
 -- Each record is valid.
 record_is_valid : (n : ℕ) (found : Option Entry) → ((e : Entry) → found ≡ Some e → IsEntry e) → IsRecord form.Sha1 n (record_for n found)
-record_is_valid n None entry = record { number = refl; blob = zero_id form.Sha1; message = inr (refl, refl) }
-record_is_valid n (Some e) entry = record { number = refl; blob = IsObjectId-id_of (blob_spelling e.text); message = inl ((entry e refl).epoch) }
+record_is_valid n None entry = record { number = refl; blob = zero_valid; message = inr (refl, refl) }
+record_is_valid n (Some e) entry = record { number = refl; blob = IsObjectId-id_of form.Sha1 (blob_spelling e.text); message = inl ((entry e refl).epoch) }
 
 pub records_are_valid : (es : List Entry) (n count : ℕ) → AllByRecursion IsEntry es → AreRecordsFrom form.Sha1 n (records_from es n count)
 records_are_valid es n zero valid = tt

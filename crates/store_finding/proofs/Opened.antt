@@ -86,7 +86,7 @@ delivered_records a valid =
 none_is : (n : ℕ) (line : Record) → IsRecord form.Sha1 n line → has_message line ≡ false → line ≡ record_for n None
 none_is n line valid test = elim valid.message [
   | inl low ↦ absurd (let yes_it = less_test line.epoch 64 (omega (arith, low)) in let wrong : true ≡ false = sym yes_it ∙ test in cc)
-  | inr none ↦ (λ i. record { number = valid.number i; epoch = none.0 i; blob = record { 0 = none.1 i } })
+  | inr none ↦ (λ i. record { number = valid.number i; epoch = none.0 i; blob = none.1 i })
 ]
 
 -- The records of a map are those of the entries that it has.
@@ -181,7 +181,7 @@ recovers_opened differ root files rs a cache has recovers =
     let size : 28 * length rs ≡ length (map_bytes a) = ap (λ (n : ℕ). 28 * n) count ∙ sym (map_length a valid) in
     let bytes : flat_map record_bytes rs ≡ map_bytes a =
     sym has.begins.spelled ∙ (ap (λ (n : ℕ). take n (bytes_of (files (map_file_of root)))) size ∙ parts.map_front.front) in
-    let same : rs ≡ records_of a = differ rs (records_of a) has.begins.valid lines bytes in
+    let same : rs ≡ records_of a = differ form.Sha1 rs (records_of a) has.begins.valid lines bytes in
     record {
       first = record {
         valid = valid.entries;

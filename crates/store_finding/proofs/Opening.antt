@@ -28,20 +28,20 @@ use Rattle.store_finding.proofs.Firsts.{all_last}
 use Rattle.store_finding.proofs.Joins.{all_joined, only_here}
 
 -- The bytes of entries are those of their records in the file.
-pub chain_of : (parent : Option ObjectId) (es : List Entry) → entries_bytes parent es ≡ chain parent (map in_file es)
+pub chain_of : (parent : Option ObjectId) (es : List Entry) → entries_bytes parent es ≡ chain form.Sha1 parent (map in_file es)
 chain_of parent [] = refl
-chain_of parent (e ∷ es) = ap (λ (b : List ℕ). bytes_after parent (in_file e) ++ b) (chain_of (Some (commit_after parent (in_file e))) es)
+chain_of parent (e ∷ es) = ap (λ (b : List ℕ). bytes_after form.Sha1 parent (in_file e) ++ b) (chain_of (Some (commit_after form.Sha1 parent (in_file e))) es)
 
-pub last_is : (parent : Option ObjectId) (es : List Entry) → last_commit parent es ≡ last_of parent (map in_file es)
+pub last_is : (parent : Option ObjectId) (es : List Entry) → last_commit parent es ≡ last_of form.Sha1 parent (map in_file es)
 last_is parent [] = refl
-last_is parent (e ∷ es) = last_is (Some (commit_after parent (in_file e))) es
+last_is parent (e ∷ es) = last_is (Some (commit_after form.Sha1 parent (in_file e))) es
 
 -- The bytes of two lists of entries, one after the other.
-pub chain_joined : (parent : Option ObjectId) (xs ys : List EpochEntry) → chain parent (xs ++ ys) ≡ chain parent xs ++ chain (last_of parent xs) ys
+pub chain_joined : (parent : Option ObjectId) (xs ys : List EpochEntry) → chain form.Sha1 parent (xs ++ ys) ≡ chain form.Sha1 parent xs ++ chain form.Sha1 (last_of form.Sha1 parent xs) ys
 chain_joined parent [] ys = refl
 chain_joined parent (x ∷ xs) ys =
-    let next : Option ObjectId = Some (commit_after parent x) in
-    ap (λ (b : List ℕ). bytes_after parent x ++ b) (chain_joined next xs ys) ∙ sym (append_assoc (bytes_after parent x) (chain next xs) (chain (last_of next xs) ys))
+    let next : Option ObjectId = Some (commit_after form.Sha1 parent x) in
+    ap (λ (b : List ℕ). bytes_after form.Sha1 parent x ++ b) (chain_joined next xs ys) ∙ sym (append_assoc (bytes_after form.Sha1 parent x) (chain form.Sha1 next xs) (chain form.Sha1 (last_of form.Sha1 next xs) ys))
 
 -- The last of valid entries, and the one after some.
 pub valid_after : (xs : List EpochEntry) (y : EpochEntry) (ys : List EpochEntry) → AreEpochEntries (xs ++ y ∷ ys) → IsEpochEntry y
@@ -95,12 +95,12 @@ fronts_by n bytes file is size =
 
 -- An epoch that a walk read and whose entries were all joined is whole.
 pub walked_whole : (root : Root) (files : Files) (epoch : ℕ) (others : List Entry) (rs : List Record) (new : JoinedEntries) (seen : List Seen) → AreWhole root files epoch others
-    → (walked : IsEpoch (named_length root epoch) (bytes_of (files (epoch_file_of root epoch))) seen) → (joined : AreJoined new rs others epoch walked.entries) → AreWhole root files (epoch + 1) (others ++ joined.more)
+    → (walked : IsEpoch form.Sha1 (named_length root epoch) (bytes_of (files (epoch_file_of root epoch))) seen) → (joined : AreJoined new rs others epoch walked.entries) → AreWhole root files (epoch + 1) (others ++ joined.more)
 walked_whole root files epoch others rs new seen whole walked joined =
     let count = walked.some in
     let files_are : length walked.entries ≡ length joined.more = ap (λ (l : List EpochEntry). length l) joined.are ∙ length-map joined.more in_file in
-    let bytes : epoch_of walked.entries ≡ epoch_bytes joined.more =
-    ap (λ (l : List EpochEntry). magic form.Sha1 ++ chain None l) joined.are ∙ (ap (λ (b : List ℕ). magic form.Sha1 ++ b) (sym (chain_of None joined.more)) ∙ sym (some_bytes joined.more (omega (arith, count, files_are)))) in
+    let bytes : epoch_of form.Sha1 walked.entries ≡ epoch_bytes joined.more =
+    ap (λ (l : List EpochEntry). magic form.Sha1 ++ chain form.Sha1 None l) joined.are ∙ (ap (λ (b : List ℕ). magic form.Sha1 ++ b) (sym (chain_of None joined.more)) ∙ sym (some_bytes joined.more (omega (arith, count, files_are)))) in
     let long : named_length root epoch ≡ length (epoch_bytes joined.more) = walked.whole ∙ ap (λ (b : List ℕ). length b) bytes in
     whole_more root files epoch others joined.more whole joined.stand long
     (fronts_by (named_length root epoch) (epoch_bytes joined.more) (files (epoch_file_of root epoch)) (walked.spelled ∙ bytes) long)
@@ -111,17 +111,17 @@ empty_whole root files epoch others whole none =
     subst (AreWhole root files (epoch + 1)) (append-nil others) (whole_more root files epoch others [] whole tt none (record { long = omega arith; front = refl }))
 
 -- An entry has a byte.
-pub entry_some : (parent : Option ObjectId) (e : EpochEntry) → bytes_after parent e ≢ []
+pub entry_some : (parent : Option ObjectId) (e : EpochEntry) → bytes_after form.Sha1 parent e ≢ []
 unfolding Rattle.mail_commits.specs.Entries.entry_bytes
 entry_some parent e is = absurd (cc)
 
 -- An epoch in which a walk ended early, and whose entries up to there were all joined, is damaged
 -- there.
 pub early_next : (root : Root) (files : Files) (epoch offset : ℕ) (others more : List Entry) (rs after : List Record) → AreWhole root files epoch others → AllByRecursion (λ (e : Entry). e.epoch ≡ epoch) more
-    → AreFirst rs after (others ++ more) → (ends : EndsEarly (named_length root epoch) (bytes_of (files (epoch_file_of root epoch))) offset) → ends.entries ≡ map in_file more → LacksNext root files rs epoch offset
+    → AreFirst rs after (others ++ more) → (ends : EndsEarly form.Sha1 (named_length root epoch) (bytes_of (files (epoch_file_of root epoch))) offset) → ends.entries ≡ map in_file more → LacksNext root files rs epoch offset
 early_next root files epoch offset others more rs after whole stand first ends are =
-    let chains : chain None ends.entries ≡ entries_bytes None more = ap (chain None) are ∙ sym (chain_of None more) in
-    let parents : last_of None ends.entries ≡ last_commit None more = ap (last_of None) are ∙ sym (last_is None more) in
+    let chains : chain form.Sha1 None ends.entries ≡ entries_bytes None more = ap (chain form.Sha1 None) are ∙ sym (chain_of None more) in
+    let parents : last_of form.Sha1 None ends.entries ≡ last_commit None more = ap (last_of form.Sha1 None) are ∙ sym (last_is None more) in
     record {
       before = others;
       here = more;
@@ -134,21 +134,21 @@ early_next root files epoch offset others more rs after whole stand first ends a
       offset_is = ends.offset_is ∙ ap (λ (b : List ℕ). 8 + length b) chains;
       wanted = elim ends.wanted [ inl none ↦ inl (nil_from_length more (sym (length-map more in_file) ∙ ap (λ (l : List EpochEntry). length l) (sym are ∙ none))) | inr less ↦ inr less ];
       lacks = λ next left tail same valid is.
-          ends.lacks (in_file next) tail (file_valid next (all_last IsEntry (others ++ more) next valid.valid)) (is ∙ ap (λ (p : Option ObjectId). bytes_after p (in_file next) ++ tail) (sym parents));
+          ends.lacks (in_file next) tail (file_valid next (all_last IsEntry (others ++ more) next valid.valid)) (is ∙ ap (λ (p : Option ObjectId). bytes_after form.Sha1 p (in_file next) ++ tail) (sym parents));
     }
 
 -- An epoch whose entries could not all be joined is damaged at the first that could not.
 pub stops_next : EntriesDiffer → (root : Root) (files : Files) (epoch offset : ℕ) (others : List Entry) (rs : List Record) (here : List EpochEntry) (after : List ℕ) → named_length root epoch < 2 ^ 64
-    → AreWhole root files epoch others → AreEpochEntries here → named_bytes root files epoch ≡ epoch_of here ++ after → StopsAt rs others epoch here offset → LacksNext root files rs epoch offset
+    → AreWhole root files epoch others → AreEpochEntries here → named_bytes root files epoch ≡ epoch_of form.Sha1 here ++ after → StopsAt rs others epoch here offset → LacksNext root files rs epoch offset
 stops_next differ root files epoch offset others rs here after short whole valid spelled stops =
     let parent = last_commit None stops.more in
-    let wrong = bytes_after parent stops.wrong in
-    let tail = chain (Some (commit_after parent stops.wrong)) stops.rest in
-    let parents : last_of None (map in_file stops.more) ≡ parent = sym (last_is None stops.more) in
-    let chains : chain None here ≡ entries_bytes None stops.more ++ (wrong ++ tail) =
-    ap (chain None) stops.are ∙ (chain_joined None (map in_file stops.more) (stops.wrong ∷ stops.rest)
-    ∙ (ap (λ (b : List ℕ). b ++ chain (last_of None (map in_file stops.more)) (stops.wrong ∷ stops.rest)) (sym (chain_of None stops.more))
-    ∙ ap (λ (p : Option ObjectId). entries_bytes None stops.more ++ chain p (stops.wrong ∷ stops.rest)) parents)) in
+    let wrong = bytes_after form.Sha1 parent stops.wrong in
+    let tail = chain form.Sha1 (Some (commit_after form.Sha1 parent stops.wrong)) stops.rest in
+    let parents : last_of form.Sha1 None (map in_file stops.more) ≡ parent = sym (last_is None stops.more) in
+    let chains : chain form.Sha1 None here ≡ entries_bytes None stops.more ++ (wrong ++ tail) =
+    ap (chain form.Sha1 None) stops.are ∙ (chain_joined None (map in_file stops.more) (stops.wrong ∷ stops.rest)
+    ∙ (ap (λ (b : List ℕ). b ++ chain form.Sha1 (last_of form.Sha1 None (map in_file stops.more)) (stops.wrong ∷ stops.rest)) (sym (chain_of None stops.more))
+    ∙ ap (λ (p : Option ObjectId). entries_bytes None stops.more ++ chain form.Sha1 p (stops.wrong ∷ stops.rest)) parents)) in
     let rest = wrong ++ (tail ++ after) in
     let split : named_bytes root files epoch ≡ (magic form.Sha1 ++ entries_bytes None stops.more) ++ rest =
     spelled ∙ (ap (λ (b : List ℕ). (magic form.Sha1 ++ b) ++ after) chains ∙ (ap (λ (b : List ℕ). b ++ after) (sym (append_assoc (magic form.Sha1) (entries_bytes None stops.more) (wrong ++ tail)))
@@ -172,7 +172,7 @@ stops_next differ root files epoch offset others rs here after short whole valid
       offset_is = is;
       wanted = inr (elim (zero_or_not (length wrong)) [ inl none ↦ absurd (entry_some parent stops.wrong (nil_from_length wrong none)) | inr some ↦ omega (arith, size, most, front, head, step, is, some) ]);
       lacks = λ next left more same first stands.
-          let one = differ parent stops.wrong (in_file next) (tail ++ after) more valid_wrong (file_valid next (all_last IsEntry (others ++ stops.more) next first.valid)) (omega (arith, size, most, front, short)) stands in
+          let one = differ form.Sha1 parent stops.wrong (in_file next) (tail ++ after) more valid_wrong (file_valid next (all_last IsEntry (others ++ stops.more) next first.valid)) (omega (arith, size, most, front, short)) stands in
           stops.no_next next left same (sym one.0) first;
     } where
       zero_or_not : (n : ℕ) → (n ≡ 0) ⊎ (0 < n)

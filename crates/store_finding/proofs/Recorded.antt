@@ -12,8 +12,10 @@ use Rattle.std.proofs.Common.{◌∙◌, sym, ap, subst, inl, inr, arith, length
 use Rattle.std.proofs.lemmas.Bool.{cases_lt}
 use Rattle.std.proofs.lemmas.Bool.Decides.{nat_tests}
 use Rattle.std.proofs.lemmas.Option.{same_Some, slice_get-get_or, slice_get_within}
-use Rattle.std.proofs.lemmas.Slice.Eq.{bytes_eq-Decides}
 use Rattle.arch_base.specs.declared.ids.Form.TheVariants as form
+use Rattle.arch_base.specs.Ids.{id_eq, id_cmp}
+use Rattle.arch_base.proofs.IdOrder.{id_eq-Decides}
+use Rattle.arch_base.specs.declared.ids.ObjectId.{ObjectId}
 use Rattle.arch_judge.specs.Indexes.{IndexLoses, IndexPuts, first_found, number_in, owner_in}
 use Rattle.arch_judge.specs.declared.index.Index.{Index}
 use Rattle.arch_judge.specs.declared.index.Owner.{Owner}
@@ -61,7 +63,7 @@ joining_none rs records entries places index is valid none no_owners no_blobs = 
   placed = λ i at here. absurd (let wrong : None ≡ Some at = ap (λ (l : List ℕ). slice_get l i) (sym none) ∙ here in cc);
   indexes = record {
     owners = λ id o here. absurd (let wrong : None ≡ Some o = sym (ap (λ (l : List (Vec ℕ × Owner)). lookup (is_at (λ (k : Vec ℕ). slice_cmp nat_cmp id k.items)) l) no_owners) ∙ here in cc);
-    blobs = λ blob n here. absurd (let wrong : None ≡ Some n = sym (ap (λ (l : List (List ℕ × ℕ)). lookup (is_at (λ (k : List ℕ). slice_cmp nat_cmp blob k)) l) no_blobs) ∙ here in cc);
+    blobs = λ blob n here. absurd (let wrong : None ≡ Some n = sym (ap (λ (l : List (ObjectId × ℕ)). lookup (is_at (id_cmp blob)) l) no_blobs) ∙ here in cc);
   };
 }
 
@@ -209,9 +211,9 @@ module _ (v : JoinedEntries) (places : List ℕ) (old new : Index) (number epoch
         | inl its ↦ (record { number = number; epoch = epoch; blob = seen.blob }, subst (λ (p : Owner). IsRecorded after p.number (record { number = number; epoch = epoch; blob = seen.blob })) its new_one)
         | inr was ↦ (let so = joining.indexes.owners id o was in (so.0, recorded_more v e o.number so.0 more so.1))
       ];
-      blobs = λ blob n here. elim (some_number (number_in old.blobs blob) (bytes_eq blob seen.blob.0) number n (sym (puts.blobs blob) ∙ here)) [
+      blobs = λ blob n here. elim (some_number (number_in old.blobs blob) (id_eq blob seen.blob) number n (sym (puts.blobs blob) ∙ here)) [
         | inl was ↦ (let so = joining.indexes.blobs blob n was in (so.0, recorded_more v e n so.0 more so.1, so.2))
-        | inr its ↦ (record { number = number; epoch = epoch; blob = seen.blob }, subst (λ (m : ℕ). IsRecorded after m (record { number = number; epoch = epoch; blob = seen.blob })) its.1 new_one, sym ((bytes_eq-Decides blob seen.blob.0).0 its.0))
+        | inr its ↦ (record { number = number; epoch = epoch; blob = seen.blob }, subst (λ (m : ℕ). IsRecorded after m (record { number = number; epoch = epoch; blob = seen.blob })) its.1 new_one, sym ((id_eq-Decides blob seen.blob).0 its.0))
       ];
     };
   } where

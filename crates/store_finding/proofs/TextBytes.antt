@@ -60,12 +60,12 @@ divided_reads bytes offset text d =
 
 -- The bytes of entries with one among them.
 entries_split : (parent : Option ObjectId) (xs : List Entry) (e : Entry) (ys : List Entry)
-    → entries_bytes parent (xs ++ e ∷ ys) ≡ entries_bytes parent xs ++ (bytes_after (last_commit parent xs) (in_file e) ++ entries_bytes (Some (commit_id form.Sha1 e.kind e.text e.moment (last_commit parent xs))) ys)
+    → entries_bytes parent (xs ++ e ∷ ys) ≡ entries_bytes parent xs ++ (bytes_after form.Sha1 (last_commit parent xs) (in_file e) ++ entries_bytes (Some (commit_id form.Sha1 e.kind e.text e.moment (last_commit parent xs))) ys)
 entries_split parent [] e ys = refl
 entries_split parent (x ∷ xs) e ys =
     let next : Option ObjectId = Some (commit_id form.Sha1 x.kind x.text x.moment parent) in
     ap (λ (b : List ℕ). entry_bytes form.Sha1 x.kind x.text x.moment parent ++ b) (entries_split next xs e ys)
-    ∙ sym (append_assoc (entry_bytes form.Sha1 x.kind x.text x.moment parent) (entries_bytes next xs) (bytes_after (last_commit next xs) (in_file e) ++ entries_bytes (Some (commit_id form.Sha1 e.kind e.text e.moment (last_commit next xs))) ys))
+    ∙ sym (append_assoc (entry_bytes form.Sha1 x.kind x.text x.moment parent) (entries_bytes next xs) (bytes_after form.Sha1 (last_commit next xs) (in_file e) ++ entries_bytes (Some (commit_id form.Sha1 e.kind e.text e.moment (last_commit next xs))) ys))
 
 epoch_split : (xs : List Entry) (e : Entry) (ys : List Entry) → epoch_bytes (xs ++ e ∷ ys) ≡ magic form.Sha1 ++ entries_bytes None (xs ++ e ∷ ys)
 epoch_split [] e ys = refl
@@ -86,7 +86,7 @@ sized_text digits text more = record {
 }
 
 entry_text : (kind : EntryKind) (text : List ℕ) (moment : ℕ) (parent : Option ObjectId) → Divided (entry_bytes form.Sha1 kind text moment parent) (6 + length (decimal (length text))) text
-unfolding (entry_bytes form.Sha1)
+unfolding entry_bytes
 entry_text kind text moment parent = sized_text (decimal (length text)) text (tree_of form.Sha1 kind text ++ commit_text form.Sha1 kind text moment parent)
 
 -- A text in the bytes of its epoch.
@@ -94,9 +94,9 @@ pub epoch_text : (xs : List Entry) (e : Entry) (ys : List Entry) → Divided (ep
 epoch_text xs e ys =
     let parent = last_commit None xs in
     let rest = entries_bytes (Some (commit_id form.Sha1 e.kind e.text e.moment parent)) ys in
-    let all = entries_bytes None xs ++ (bytes_after parent (in_file e) ++ rest) in
-    let here = divided_before (bytes_after parent (in_file e)) rest (blob_front e.text) e.text (entry_text e.kind e.text e.moment parent) in
-    let after = divided_after (entries_bytes None xs) (bytes_after parent (in_file e) ++ rest) (blob_front e.text) e.text here in
+    let all = entries_bytes None xs ++ (bytes_after form.Sha1 parent (in_file e) ++ rest) in
+    let here = divided_before (bytes_after form.Sha1 parent (in_file e)) rest (blob_front e.text) e.text (entry_text e.kind e.text e.moment parent) in
+    let after = divided_after (entries_bytes None xs) (bytes_after form.Sha1 parent (in_file e) ++ rest) (blob_front e.text) e.text here in
     let whole : Divided (magic form.Sha1 ++ all) (length (magic form.Sha1) + (length (entries_bytes None xs) + blob_front e.text)) e.text = divided_after (magic form.Sha1) all (length (entries_bytes None xs) + blob_front e.text) e.text after in
     let offset : length (magic form.Sha1) + (length (entries_bytes None xs) + blob_front e.text) ≡ 8 + length (entries_bytes None xs) + blob_front e.text = omega arith in
     subst (λ (n : ℕ). Divided (epoch_bytes (xs ++ e ∷ ys)) n e.text) offset

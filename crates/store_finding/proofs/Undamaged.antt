@@ -105,7 +105,7 @@ last_epoch root files rs after es epoch first whole =
       both (x ∷ xs) under over = (let low = under.0 in let high = over.0 in omega (arith, low, high), both xs under.1 over.1)
 
 -- The bytes of an epoch after the magic are a chain.
-tail_of : (es : List Entry) → chain None (map in_file es) ≡ drop 8 (epoch_bytes es)
+tail_of : (es : List Entry) → chain form.Sha1 None (map in_file es) ≡ drop 8 (epoch_bytes es)
 tail_of [] = refl
 tail_of (e ∷ es) = sym (chain_of None (e ∷ es)) ∙ sym (drop-append_seam (magic form.Sha1) (entries_bytes None (e ∷ es)))
 
@@ -138,10 +138,10 @@ module _ (root : Root) (files : Files) (rs : List Record) (fits : RootFits root)
       let bytes = front_is_one (files (epoch_file_of root epoch)) (epoch_bytes one.upto.back) (epoch_bytes two.upto.back) (sym one.long ∙ two.long) one.front two.front in
       let short = (fits.epochs epoch (omega (arith, few))).length in
       let long = one.long in
-      let size : length (chain None (map in_file one.upto.back)) ≡ length (drop 8 (epoch_bytes one.upto.back)) = ap length (tail_of one.upto.back) in
+      let size : length (chain form.Sha1 None (map in_file one.upto.back)) ≡ length (drop 8 (epoch_bytes one.upto.back)) = ap length (tail_of one.upto.back) in
       let same : map in_file one.upto.back ≡ map in_file two.upto.back =
-      differ (map in_file one.upto.back) (map in_file two.upto.back) (files_valid one.upto.back one.valid) (files_valid two.upto.back two.valid)
-      (omega (arith, short, long, size, length-append (magic form.Sha1) (chain None (map in_file one.upto.back)), length-drop 8 (epoch_bytes one.upto.back)))
+      differ form.Sha1 (map in_file one.upto.back) (map in_file two.upto.back) (files_valid one.upto.back one.valid) (files_valid two.upto.back two.valid)
+      (omega (arith, short, long, size, length-append (magic form.Sha1) (chain form.Sha1 None (map in_file one.upto.back)), length-drop 8 (epoch_bytes one.upto.back)))
       (ap (λ (b : List ℕ). magic form.Sha1 ++ b) (tail_of one.upto.back ∙ (ap (drop 8) bytes ∙ sym (tail_of two.upto.back)))) in
       ap (map unnumbered) one.upto.is ∙ (map-append unnumbered one.upto.front one.upto.back
       ∙ ((λ i. fronts i ++ same_places epoch one.upto.back two.upto.back one.stand two.stand same i)
@@ -174,22 +174,22 @@ no_front_lost root files rs entries epoch offset whole less lost = by (in_epoch 
 pub record Prefix (parent : Option ObjectId) (xs ys : List EpochEntry) (rest : List ℕ) : Type 0 where
   pub more : List EpochEntry
   pub is : ys ≡ xs ++ more
-  pub rest_is : rest ≡ chain (last_of parent xs) more
+  pub rest_is : rest ≡ chain form.Sha1 (last_of form.Sha1 parent xs) more
 
 no_front : (b c r : List ℕ) → [] ≡ (b ++ c) ++ r → b ≡ []
 no_front [] c r is = refl
 no_front (z ∷ zs) c r is = absurd (cc)
 
-pub prefix_of : EntriesDiffer → (parent : Option ObjectId) (xs ys : List EpochEntry) (rest : List ℕ) → AreEpochEntries xs → AreEpochEntries ys → length (chain parent ys) < 2 ^ 64 → chain parent ys ≡ chain parent xs ++ rest → Prefix parent xs ys rest
+pub prefix_of : EntriesDiffer → (parent : Option ObjectId) (xs ys : List EpochEntry) (rest : List ℕ) → AreEpochEntries xs → AreEpochEntries ys → length (chain form.Sha1 parent ys) < 2 ^ 64 → chain form.Sha1 parent ys ≡ chain form.Sha1 parent xs ++ rest → Prefix parent xs ys rest
 prefix_of differ parent [] ys rest valid also short is = record { more = ys; is = refl; rest_is = sym is }
-prefix_of differ parent (x ∷ xs) [] rest valid also short is = absurd (entry_some parent x (no_front (bytes_after parent x) (chain (Some (commit_after parent x)) xs) rest is))
+prefix_of differ parent (x ∷ xs) [] rest valid also short is = absurd (entry_some parent x (no_front (bytes_after form.Sha1 parent x) (chain form.Sha1 (Some (commit_after form.Sha1 parent x)) xs) rest is))
 prefix_of differ parent (x ∷ xs) (y ∷ ys) rest valid also short is =
-    let next : Option ObjectId = Some (commit_after parent x) in
-    let tail = chain (Some (commit_after parent y)) ys in
-    let one = differ parent y x tail (chain next xs ++ rest) also.0 valid.0 short (is ∙ append_assoc (bytes_after parent x) (chain next xs) rest) in
-    let same : chain next ys ≡ chain next xs ++ rest = ap (λ (e : EpochEntry). chain (Some (commit_after parent e)) ys) (sym one.0) ∙ one.1 in
-    let size : length (chain next ys) ≡ length tail = ap (λ (e : EpochEntry). length (chain (Some (commit_after parent e)) ys)) (sym one.0) in
-    let later = prefix_of differ next xs ys rest valid.1 also.1 (omega (arith, short, size, length-append (bytes_after parent y) tail)) same in
+    let next : Option ObjectId = Some (commit_after form.Sha1 parent x) in
+    let tail = chain form.Sha1 (Some (commit_after form.Sha1 parent y)) ys in
+    let one = differ form.Sha1 parent y x tail (chain form.Sha1 next xs ++ rest) also.0 valid.0 short (is ∙ append_assoc (bytes_after form.Sha1 parent x) (chain form.Sha1 next xs) rest) in
+    let same : chain form.Sha1 next ys ≡ chain form.Sha1 next xs ++ rest = ap (λ (e : EpochEntry). chain form.Sha1 (Some (commit_after form.Sha1 parent e)) ys) (sym one.0) ∙ one.1 in
+    let size : length (chain form.Sha1 next ys) ≡ length tail = ap (λ (e : EpochEntry). length (chain form.Sha1 (Some (commit_after form.Sha1 parent e)) ys)) (sym one.0) in
+    let later = prefix_of differ next xs ys rest valid.1 also.1 (omega (arith, short, size, length-append (bytes_after form.Sha1 parent y) tail)) same in
     let first = one.0 in
     record { more = later.more; is = (λ i. first i ∷ later.is i); rest_is = later.rest_is }
 
@@ -201,10 +201,10 @@ none_lost entry epochs root files rs entries epoch offset fits opened less lost 
     let here = last.upto.back in
     let count = length lost.here in
     let named : named_bytes root files epoch ≡ epoch_bytes here = named_whole root files epoch (epoch_bytes here) last.long last.front in
-    let begins : chain None (map in_file here) ≡ chain None (map in_file lost.here) ++ lost.rest =
+    let begins : chain form.Sha1 None (map in_file here) ≡ chain form.Sha1 None (map in_file lost.here) ++ lost.rest =
     tail_of here ∙ (ap (drop 8) (sym named ∙ (lost.spelled ∙ append_assoc (magic form.Sha1) (entries_bytes None lost.here) lost.rest))
     ∙ (drop-append_seam (magic form.Sha1) (entries_bytes None lost.here ++ lost.rest) ∙ ap (λ (b : List ℕ). b ++ lost.rest) (chain_of None lost.here))) in
-    let size : length (chain None (map in_file here)) ≡ length (drop 8 (epoch_bytes here)) = ap length (tail_of here) in
+    let size : length (chain form.Sha1 None (map in_file here)) ≡ length (drop 8 (epoch_bytes here)) = ap length (tail_of here) in
     let long = last.long in
     let short = (fits.epochs epoch less).length in
     let prefix = prefix_of entry None (map in_file lost.here) (map in_file here) lost.rest (files_valid lost.here (all_back IsEntry lost.before lost.here lost.first.valid)) (files_valid here last.valid)
@@ -222,11 +222,11 @@ none_lost entry epochs root files rs entries epoch offset fits opened less lost 
     let same : xs ≡ lost.before ++ lost.here = same_first rs _ lost.after xs (lost.before ++ lost.here) (first_front rs [] xs (drop count here ++ all.back) (subst (AreFirst rs []) whole opened.first)) lost.first
     (map-append unnumbered last.upto.front (take count here) ∙ ((λ i. map unnumbered (before i) ++ places i) ∙ sym (map-append unnumbered lost.before lost.here))) in
     let total : length (epoch_bytes here) ≡ length ((magic form.Sha1 ++ entries_bytes None lost.here) ++ lost.rest) = ap length (sym named ∙ lost.spelled) in
-    by here all.back (drop count here) refl (all_back (λ (e : Entry). e.epoch ≡ epoch) (take count here) (drop count here) stand) (prefix.rest_is ∙ (λ i. chain (sym (last_is None lost.here) i) (sym left i)))
+    by here all.back (drop count here) refl (all_back (λ (e : Entry). e.epoch ≡ epoch) (take count here) (drop count here) stand) (prefix.rest_is ∙ (λ i. chain form.Sha1 (sym (last_is None lost.here) i) (sym left i)))
     (omega (arith, long, total, length-append (magic form.Sha1 ++ entries_bytes None lost.here) lost.rest, length-append (magic form.Sha1) (entries_bytes None lost.here)))
     long (whole ∙ (λ i. same i ++ (drop count here ++ all.back)))
   where
-    by : (here back more : List Entry) → drop (length lost.here) here ≡ more → AllByRecursion (λ (e : Entry). e.epoch ≡ epoch) more → lost.rest ≡ chain (last_commit None lost.here) (map in_file more)
+    by : (here back more : List Entry) → drop (length lost.here) here ≡ more → AllByRecursion (λ (e : Entry). e.epoch ≡ epoch) more → lost.rest ≡ chain form.Sha1 (last_commit None lost.here) (map in_file more)
         → named_length root epoch ≡ 8 + length (entries_bytes None lost.here) + length lost.rest → named_length root epoch ≡ length (epoch_bytes here) → entries ≡ (lost.before ++ lost.here) ++ (more ++ back) → ⊥
     by here back [] none stand rest total long is =
         let size : length lost.rest ≡ 0 = ap length rest in
@@ -236,7 +236,7 @@ none_lost entry epochs root files rs entries epoch offset fits opened less lost 
           | inr goes_on ↦ absurd (omega (arith, total, size, at, goes_on))
         ]
     by here back (c ∷ cs) none stand rest total long is =
-        lost.lacks c (map record_of (delivered (cs ++ back)) ++ []) (chain (Some (commit_after (last_commit None lost.here) (in_file c))) (map in_file cs)) stand.0
+        lost.lacks c (map record_of (delivered (cs ++ back)) ++ []) (chain form.Sha1 (Some (commit_after form.Sha1 (last_commit None lost.here) (in_file c))) (map in_file cs)) stand.0
         (first_front rs [] ((lost.before ++ lost.here) ++ c ∷ []) (cs ++ back) (subst (AreFirst rs []) (is ∙ sym (append_assoc (lost.before ++ lost.here) (c ∷ []) (cs ++ back))) opened.first)) rest
 
 -- Files that are opened have no damage.

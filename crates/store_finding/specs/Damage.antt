@@ -74,7 +74,7 @@ pub record LacksFront (root : Root) (files : Files) (rs : List Record) (epoch of
   pub first : AreFirst rs after before
   pub whole : AreWhole root files epoch before
   pub some : 0 < named_length root epoch
-  pub lacks : LacksMagic (named_length root epoch) (bytes_of (files (epoch_file_of root epoch)))
+  pub lacks : LacksMagic form.Sha1 (named_length root epoch) (bytes_of (files (epoch_file_of root epoch)))
   pub offset_is : offset ≡ 0
 
 -- The epochs below this one are whole. This one starts with the magic and some entries, and all of
@@ -94,7 +94,7 @@ pub record LacksNext (root : Root) (files : Files) (rs : List Record) (epoch off
   pub wanted : (here ≡ []) ⊎ (offset < named_length root epoch)
   pub lacks : (next : Entry) (others : List Record) (more : List ℕ) → next.epoch ≡ epoch
       → AreFirst rs others ((before ++ here) ++ next ∷ [])
-      → rest ≢ bytes_after (last_commit None here) (in_file next) ++ more
+      → rest ≢ bytes_after form.Sha1 (last_commit None here) (in_file next) ++ more
 
 -- All epochs are whole, and have the first entries of the map. The map has one more record, whose
 -- message should be in this epoch, after its end.

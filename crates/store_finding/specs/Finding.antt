@@ -58,7 +58,7 @@ pub record IsDamagedMap (files : Files) (file : FileName) (at : ℕ) : Type 0 wh
   pub slot : ℕ
   pub current : IsCurrentRoot root slot files
   pub file_is : file ≡ map_file_of root
-  pub damaged : map_walks.LacksRecord (root.next - 1) at (bytes_of (files (map_file_of root)))
+  pub damaged : map_walks.LacksRecord form.Sha1 (root.next - 1) at (bytes_of (files (map_file_of root)))
 
 -- The map that the current root names is whole, and an epoch is the first one that is damaged.
 pub record IsDamagedEpoch (files : Files) (file : FileName) (at : ℕ) : Type 0 where
@@ -95,7 +95,7 @@ abbrev pub FindsRecords : Root → Files → Result (List Record) OpenRefusal �
 FindsRecords root files (Ok rs) = HasRecords root files rs
 FindsRecords root files (Err NoArchive) = ⊥
 FindsRecords root files (Err (Damaged file at)) = (file ≡ map_file_of root)
-    × map_walks.LacksRecord (root.next - 1) at (bytes_of (files (map_file_of root)))
+    × map_walks.LacksRecord form.Sha1 (root.next - 1) at (bytes_of (files (map_file_of root)))
 FindsRecords root files (Err _) = Unit {0}
 
 -- A file is that of an epoch, and it is the first one that is damaged.
@@ -124,7 +124,7 @@ abbrev pub ReadsSeen : Root → ℕ → JoinedEntries → List Seen → Result J
     → Files → Type 0
 ReadsSeen root epoch old seen result files =
     (rs : List Record) → RootFits root → IsReadUpTo root files rs epoch old
-    → IsEpoch (named_length root epoch) (bytes_of (files (epoch_file_of root epoch))) seen
+    → IsEpoch form.Sha1 (named_length root epoch) (bytes_of (files (epoch_file_of root epoch))) seen
     → ReadsEpochsUpTo root files rs (epoch + 1) result
 
 -- Why an epoch isn't read whose file is no epoch from an offset on, whatever was read before.
@@ -132,15 +132,17 @@ abbrev pub StopsEpoch : Root → ℕ → JoinedEntries → ℕ → OpenRefusal �
 StopsEpoch root epoch old offset refusal files =
     (rs : List Record) → RootFits root → 0 < named_length root epoch
     → IsReadUpTo root files rs epoch old
-    → IsDamagedEpochAt (named_length root epoch) (bytes_of (files (epoch_file_of root epoch))) offset
+    → IsDamagedEpochAt form.Sha1 (named_length root epoch)
+    (bytes_of (files (epoch_file_of root epoch))) offset
     → StopsBy root files rs refusal
 
 -- The same if the entries before that offset are known.
 abbrev pub StopsSeen : Root → ℕ → JoinedEntries → ℕ → List Seen → OpenRefusal → Files → Type 0
 StopsSeen root epoch old offset seen refusal files =
     (rs : List Record) → RootFits root → IsReadUpTo root files rs epoch old
-    → IsDamagedEpochAt (named_length root epoch) (bytes_of (files (epoch_file_of root epoch))) offset
-    → IsEpoch offset (bytes_of (files (epoch_file_of root epoch))) seen
+    → IsDamagedEpochAt form.Sha1 (named_length root epoch)
+    (bytes_of (files (epoch_file_of root epoch))) offset
+    → IsEpoch form.Sha1 offset (bytes_of (files (epoch_file_of root epoch))) seen
     → StopsBy root files rs refusal
 
 -- All epochs are read, or why not, if none was read before.
@@ -180,6 +182,6 @@ abbrev pub FindsEntries : Root → Files → Result (List StoredEntry) OpenRefus
 FindsEntries root files (Ok kept) = HasEntries root files kept
 FindsEntries root files (Err NoArchive) = ⊥
 FindsEntries root files (Err (Damaged file at)) = ((file ≡ map_file_of root)
-    × map_walks.LacksRecord (root.next - 1) at (bytes_of (files (map_file_of root))))
+    × map_walks.LacksRecord form.Sha1 (root.next - 1) at (bytes_of (files (map_file_of root))))
     ⊎ LacksEntries root files file at
 FindsEntries root files (Err _) = Unit {0}

@@ -3,6 +3,7 @@ use Rattle.std.specs.Prelude.{◌≡◌, ◌⊎◌, ◌+◌, ◌<◌, ◌≤◌,
 use Rattle.std.specs.List.{AllByRecursion, filter}
 use Rattle.std.specs.Str.{bytes_eq}
 use Rattle.arch_base.specs.declared.ids.Form.TheVariants as form
+use Rattle.arch_base.specs.declared.ids.ObjectId.{ObjectId}
 use Rattle.disk_model.specs.Sizes.{epoch_count}
 use Rattle.arch_model.specs.Epochs.{entries_bytes}
 use Rattle.arch_model.specs.Archives.{Entry, is_message, live, owner, blob_number}
@@ -112,8 +113,8 @@ pub record IsJoinedAt (v : JoinedEntries) (index at : ℕ) : Type 0 where
 pub record IndexesRecords (v : JoinedEntries) (index : Index) : Type 0 where
   pub owners : (id : List ℕ) (o : Owner) → owner_in index.owners id ≡ Some o
       → (line : Record) × IsRecorded v o.number line
-  pub blobs : (blob : List ℕ) (n : ℕ) → number_in index.blobs blob ≡ Some n
-      → (line : Record) × IsRecorded v n line × (line.blob.0 ≡ blob)
+  pub blobs : (blob : ObjectId) (n : ℕ) → number_in index.blobs blob ≡ Some n
+      → (line : Record) × IsRecorded v n line × (line.blob ≡ blob)
 
 -- The records rise, the messages of the first of them are the entries at these indexes, and an index
 -- names none but these.
@@ -167,7 +168,7 @@ pub record IsCompared (root : Root) (files : Files) (kept : List StoredEntry) (e
 -- No older entry has the blob id of an entry, or the text of one that has it was compared.
 abbrev pub IsSameText : Root → Files → JoinedEntries → List Entry → ℕ → Seen → Bool → Type 0
 IsSameText root files v all epoch seen same =
-    ((blob_number all seen.blob.0 ≡ None) × (same ≡ true))
+    ((blob_number all seen.blob ≡ None) × (same ≡ true))
     ⊎ IsCompared root files v.entries epoch seen same
 
 -- The result of comparing an entry's text with that of an older entry with its blob id.
@@ -245,8 +246,8 @@ abbrev pub TakesEpoch : Root → JoinedEntries → ℕ → List Seen → Result 
 TakesEpoch root old epoch seen result files =
     (rs after : List Record) (others : List Entry) (here : List EpochEntry)
     → HoldsJoined old rs after others → AreWhole root files epoch others
-    → Fronts (epoch_of here) (files (epoch_file_of root epoch))
-    → AreEpochEntries here → seen ≡ seen_from 8 None here
+    → Fronts (epoch_of form.Sha1 here) (files (epoch_file_of root epoch))
+    → AreEpochEntries here → seen ≡ seen_from form.Sha1 8 None here
     → JoinsAll rs others epoch here result
 
 -- All records of the map that have a message have an entry, and this is what is kept; or the first

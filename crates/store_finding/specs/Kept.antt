@@ -1,5 +1,6 @@
 -- What is kept in memory of an archive, and which disk is its own.
 use Rattle.std.specs.Prelude.{◌-◌, slice_get, ◌≡◌, ◌+◌, ◌≤◌, ℕ, List, [], ◌∷◌, ◌++◌, length, Option, Some, None}
+use Rattle.arch_base.specs.declared.ids.Form.TheVariants as form
 use Rattle.disk_model.specs.Disk.{Content}
 use Rattle.disk_model.specs.Sizes.{greatest_epoch}
 use Rattle.arch_model.specs.Archives.{Entry, Archive, in_epoch}
@@ -29,7 +30,7 @@ abbrev pub stored_at : List Entry → Entry → StoredEntry
 stored_at before e = record {
   number = e.number;
   epoch = e.epoch;
-  seen = seen_at (8 + length (entries_bytes None (in_epoch before e.epoch)))
+  seen = seen_at form.Sha1 (8 + length (entries_bytes None (in_epoch before e.epoch)))
       (last_commit None (in_epoch before e.epoch)) (in_file e);
 }
 

@@ -1,5 +1,5 @@
 -- Which files stand for an archive.
-use Rattle.std.specs.Prelude.{◌≡◌, ◌+◌, ◌-◌, ◌<◌, ◌≤◌, ◌==◌, ℕ, zero, suc, List, [], ◌∷◌, length, get_or, replicate, Option, Some, None, if◌then◌else◌}
+use Rattle.std.specs.Prelude.{◌≡◌, ◌+◌, ◌-◌, ◌<◌, ◌≤◌, ◌==◌, ℕ, zero, suc, List, [], ◌∷◌, length, get_or, Option, Some, None, if◌then◌else◌}
 use Rattle.std.specs.List.{flat_map}
 use Rattle.arch_base.specs.declared.ids.Form.TheVariants as form
 use Rattle.disk_model.specs.declared.name.FileKind.TheVariants as kind
@@ -9,7 +9,7 @@ use Rattle.git_objects.specs.Objects.{blob_id_of}
 use Rattle.arch_model.specs.Archives.{Entry, Archive, messages, in_epoch}
 use Rattle.arch_model.specs.Epochs.{epoch_bytes}
 use Rattle.number_map.specs.declared.line.Record.{Record}
-use Rattle.number_map.specs.Records.{record_bytes}
+use Rattle.number_map.specs.Records.{record_bytes, zero_id}
 use Rattle.root_slots.specs.declared.root.Root.{Root}
 use Rattle.root_slots.specs.RootName.{root_name}
 use Rattle.root_slots.specs.Slots.{IsShutFile}
@@ -25,7 +25,7 @@ entry_of (e ∷ es) n = if e.number == n then Some e else entry_of es n
 
 -- The record of a number: the epoch and the blob id of its message, or that it has none.
 abbrev pub record_for : ℕ → Option Entry → Record
-record_for n None = record { number = n; epoch = 4294967295; blob = record { 0 = replicate 20 0 } }
+record_for n None = record { number = n; epoch = 4294967295; blob = zero_id form.Sha1 }
 record_for n (Some e) = record { number = n; epoch = e.epoch; blob = blob_id_of form.Sha1 e.text }
 
 -- The records of `count` numbers from one on.

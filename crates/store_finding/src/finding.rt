@@ -23,6 +23,7 @@ use crate::entries::StoredEntry;
 use crate::indexing::IndexedEntries;
 use crate::join_refusal::JoinRefusal;
 use crate::joining::Joining;
+use arch_base::Form;
 use arch_judge::Index;
 use arch_model::OpenRefusal;
 use disk_model::{Disk, EPOCHS, FileKind, FileName, WalkRefusal};
@@ -110,7 +111,7 @@ fn find_records<D: Disk>(alloc: Global, disk: &mut D, root: &Root) -> Result<Rec
     ensures steady { result ≢ Err OpenRefusal.DiskFault → D.faults disk.new ≡ D.faults disk.old }
 {
     let file = map_file(root.map.generation);
-    match number_map::walk(alloc, disk, file, root.next - 1) {
+    match number_map::walk(alloc, disk, file, root.next - 1, Form::Sha1) {
         Ok(records) => Ok(records),
         Err(WalkRefusal::Damaged { at }) => Err(OpenRefusal::Damaged { file, at }),
         Err(WalkRefusal::DiskFault) => Err(OpenRefusal::DiskFault),
@@ -211,7 +212,7 @@ fn stop_at<D: Disk>(
     if at <= 8 {
         return OpenRefusal::Damaged { file, at };
     }
-    match epoch_file::walk(alloc, disk, file, at) {
+    match epoch_file::walk(alloc, disk, file, at, Form::Sha1) {
         Ok(seen) => stop_in(alloc, disk, root, epoch, joining, at, seen),
         // The bytes before the offset are an epoch.
         Err(WalkRefusal::Damaged { at: _ }) => OpenRefusal::Damaged { file, at },
@@ -246,7 +247,8 @@ fn join_epoch<D: Disk>(
     if length == 0 {
         return Ok(joining);
     }
-    match epoch_file::walk(alloc, disk, named_file(root, epoch), length) {
+    let file = named_file(root, epoch);
+    match epoch_file::walk(alloc, disk, file, length, Form::Sha1) {
         Ok(seen) => take(alloc, disk, root, epoch, joining, seen),
         Err(WalkRefusal::Damaged { at }) => Err(stop_at(alloc, disk, root, epoch, joining, at)),
         Err(WalkRefusal::DiskFault) => Err(OpenRefusal::DiskFault),

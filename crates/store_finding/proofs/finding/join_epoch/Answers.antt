@@ -20,13 +20,13 @@ returns-then-length-eq0-clause-below g c = all_weaker (λ (e : StoredEntry). e.e
 
 pub returns-in-Ok-clause-joined : goal.returns-in-Ok-clause-joined
 returns-in-Ok-clause-joined g c =
-    where_both _ _ _ _ _ c.walk.ensures.same (rw c.named_file.ensures at (rw c.named_place-length.ensures at c.in-Ok.ensures.walked)) c.take.ensures.taken (λ k walked reads rs fits up. reads rs fits up walked)
+    where_both _ _ _ _ _ c.walk.ensures.same (rw c.named_file-file.ensures at (rw c.named_place-length.ensures at c.in-Ok.ensures.walked)) c.take.ensures.taken (λ k walked reads rs fits up. reads rs fits up walked)
 
 pub returns-in-Err-Damaged-clause-joined : goal.returns-in-Err-Damaged-clause-joined
 returns-in-Err-Damaged-clause-joined g c =
     let same : c.named_place-length.result.length ≡ named_length c.args.root.now c.args.epoch = ap (λ (p : Place). p.length) c.named_place-length.ensures in
     let some : 0 < named_length c.args.root.now c.args.epoch = (let apart = c.if-length-eq0.false in omega (arith, apart, same)) in
-    where_both _ _ _ _ _ c.walk.ensures.same (rw c.named_file.ensures at (rw c.named_place-length.ensures at (rw c.in-Err-Damaged.field-0-is at c.in-Err-Damaged.ensures.walked))) c.stop_at.ensures.stops
+    where_both _ _ _ _ _ c.walk.ensures.same (rw c.named_file-file.ensures at (rw c.named_place-length.ensures at (rw c.in-Err-Damaged.field-0-is at c.in-Err-Damaged.ensures.walked))) c.stop_at.ensures.stops
     (λ k damaged stops rs fits up. stops rs fits some up damaged)
 
 pub returns-in-Ok-clause-named : goal.returns-in-Ok-clause-named
