@@ -1,5 +1,5 @@
 -- No part is planned twice.
-use Rattle.std.specs.Prelude.{◌≡◌, ◌==◌, ◌&&◌, ℕ, suc, Bool, false, List, [], ◌∷◌, ◌++◌, slice_get, Option, Some, None, refl}
+use Rattle.std.specs.Prelude.{◌≡◌, ◌==◌, ◌&&◌, ℕ, suc, false, List, [], ◌∷◌, slice_get, Option, Some, None, refl}
 use Rattle.std.proofs.Common.{◌∙◌, sym, ap, subst, arith}
 use Rattle.disk_model.specs.declared.name.FileKind.{FileKind}
 use Rattle.disk_model.specs.declared.name.FileKind.TheVariants as kind
@@ -8,7 +8,7 @@ use Rattle.root_slots.specs.declared.root.Root.{Root}
 use Rattle.root_change.specs.Rewriting.{Plan, plan_of, same_kind}
 use Rattle.root_change.proofs.PlanParts.{is_of, of_others}
 use Rattle.epoch_file.specs.Planning.{IsOfEpoch, Planned}
-use Rattle.store_planning.specs.Planning.{ArePlansIn, ClosesAs, ClosesLast, EndByCurrent, PlansApart, IsTakenToOffset, IsTakenUpTo, Planning, without_current}
+use Rattle.store_planning.specs.Planning.{ArePlansIn, ClosesAs, ClosesLast, EndByCurrent, PlansApart, IsTakenUpTo, Planning, without_current}
 use Rattle.store_planning.proofs.Planned.{of_rest}
 
 -- The plan of an epoch that isn't planned yet is of another part.

@@ -1,12 +1,11 @@
 -- The last entry of an archive, and the epoch of the next one.
-use Rattle.std.specs.Prelude.{◌≡◌, ◌⊎◌, ◌+◌, ◌-◌, ◌≤◌, ℕ, List, [], ◌∷◌, ◌++◌, length, slice_get, Option, Some, None, unwrap_or, refl}
+use Rattle.std.specs.Prelude.{◌≡◌, ◌⊎◌, ◌-◌, ◌≤◌, ℕ, List, [], ◌∷◌, ◌++◌, length, slice_get, Option, Some, None, unwrap_or, refl}
 use Rattle.std.proofs.Common.{◌∙◌, sym, ap, subst, inl, inr, arith, length-append}
 use Rattle.std.proofs.lemmas.Bool.Decides.{nat_tests}
 use Rattle.arch_model.specs.Archives.{Entry, Archive, in_epoch}
 use Rattle.arch_model.specs.Delivery.{greater, last_epoch}
 use Rattle.arch_model.specs.Epochs.{last_commit}
 use Rattle.store_finding.specs.declared.entries.StoredEntry.{StoredEntry}
-use Rattle.store_planning.specs.declared.next.End.{End}
 use Rattle.arch_model.specs.Validity.{Rise, number_after}
 use Rattle.store_planning.specs.Dropping.{IsStoreEnd}
 use Rattle.store_finding.specs.Kept.{stored_at, stored_after}

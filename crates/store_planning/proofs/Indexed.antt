@@ -98,7 +98,7 @@ apart_set (q ∷ qs) (suc i) p x here k_is n_is apart = (none_set qs i p x q.kin
 -- So what always holds of a planner still does.
 set_so : (top i : ℕ) (p : Planning) (old new : Plan) → IsPlanning top p → slice_get p.plans i ≡ Some old → new.kind ≡ old.kind → new.number ≡ old.number → IsPlan new
     → IsPlanning top (record { plans = slice_set p.plans i new; entries = p.entries; gone = p.gone; current = p.current })
-set_so top i p old new is here k_is n_is valid = record { apart = apart_set p.plans i old new here k_is n_is is.apart; valid = each_set IsPlan p.plans i new is.valid valid; gone = is.gone }
+set_so top i p old new is here k_is n_is valid = record { apart = apart_set p.plans i old new here k_is n_is is.apart; valid = each_set IsPlan p.plans i new is.valid valid; gone = is.gone; form = is.form }
 
 pub planning_set : {T E : Type 0} (top i : ℕ) (p : Planning) (old new : Plan) (bytes : List ℕ) (result : Result T E) → IsPlanning top p → slice_get p.plans i ≡ Some old → OnOk result (new ≡ with_bytes old bytes) → OnOk result (IsPlan new) → OnErr result (new ≡ old)
     → IsPlanning top (record { plans = slice_set p.plans i new; entries = p.entries; gone = p.gone; current = p.current })

@@ -1,8 +1,8 @@
 -- Which epochs a planner writes anew: those that lose an entry.
-use Rattle.std.specs.Prelude.{◌≡◌, ◌+◌, ◌==◌, ℕ, Bool, true, false, ◌&&◌, ◌||◌, if◌then◌else◌, List, [], ◌∷◌, ◌++◌, Option, Some, None, is_some, refl}
-use Rattle.std.specs.Str.{bytes_eq}
+use Rattle.std.specs.Prelude.{◌≡◌, ◌==◌, ℕ, Bool, true, false, ◌&&◌, ◌||◌, if◌then◌else◌, List, [], ◌∷◌, ◌++◌, Option, Some, None, is_some, refl}
 use Rattle.std.proofs.Common.{◌∙◌, sym, ap, inl, inr}
 use Rattle.arch_base.specs.declared.ids.ObjectId.{ObjectId}
+use Rattle.arch_base.specs.Ids.{id_eq}
 use Rattle.disk_model.specs.Disk.{Content}
 use Rattle.disk_model.specs.declared.name.FileKind.{FileKind}
 use Rattle.disk_model.specs.declared.name.FileKind.TheVariants as kind
@@ -11,7 +11,7 @@ use Rattle.root_change.specs.Rewriting.{Plan, plan_of, same_kind}
 use Rattle.root_change.proofs.PlanParts.{is_of}
 use Rattle.epoch_file.specs.Planning.{IsOfEpoch, Planned}
 use Rattle.store_finding.specs.declared.entries.StoredEntry.{StoredEntry}
-use Rattle.store_planning.specs.Planning.{ChangesNext, ClosesAs, PlansEntry, LeavesOut, OpensPlan, OpensBy, Planning, is_anew, is_changed, loses, without_current}
+use Rattle.store_planning.specs.Planning.{ChangesNext, ClosesAs, PlansEntry, LeavesOut, OpensPlan, OpensBy, Planning, is_anew, is_changed, without_current}
 
 -- Tests.
 pub or_no : (t : Bool) → (t || false) ≡ t
@@ -67,7 +67,7 @@ opened_some old file (Some c) mid plan e (inr next) = (
 )
 
 -- An entry was kept, or left out.
-pub kept_changes : (old : Planning) (file : FileName) (stored : StoredEntry) (blob : ObjectId) (content : Option Content) (mid new : Planning) (plan : Planned) → OpensPlan old file mid plan → bytes_eq blob.0 stored.seen.blob.0 ≡ false → PlansEntry mid plan stored content new → ChangesNext old file.number (bytes_eq blob.0 stored.seen.blob.0) new
+pub kept_changes : (old : Planning) (file : FileName) (stored : StoredEntry) (blob : ObjectId) (content : Option Content) (mid new : Planning) (plan : Planned) → OpensPlan old file mid plan → id_eq blob stored.seen.blob ≡ false → PlansEntry mid plan stored content new → ChangesNext old file.number (id_eq blob stored.seen.blob) new
 kept_changes old file stored blob content mid new plan opens test keeps = λ e.
     let so = opened_some old file old.current mid plan e opens in
     let some = is_some (plan_of mid.plans kind.Epoch e) in
@@ -76,7 +76,7 @@ kept_changes old file stored blob content mid new plan opens test keeps = λ e.
     ∙ (ap (λ (f : FileName). some || (is_some plan.changed && (f.number == e))) keeps.file
     ∙ (so.1 ∙ (sym (or_no (is_anew old e)) ∙ ap (λ (t : Bool). is_anew old e || (t && (file.number == e))) (sym test)))))
 
-pub left_changes : (old : Planning) (file : FileName) (stored : StoredEntry) (blob : ObjectId) (mid new : Planning) (plan : Planned) → OpensPlan old file mid plan → bytes_eq blob.0 stored.seen.blob.0 ≡ true → LeavesOut mid plan stored new → ChangesNext old file.number (bytes_eq blob.0 stored.seen.blob.0) new
+pub left_changes : (old : Planning) (file : FileName) (stored : StoredEntry) (blob : ObjectId) (mid new : Planning) (plan : Planned) → OpensPlan old file mid plan → id_eq blob stored.seen.blob ≡ true → LeavesOut mid plan stored new → ChangesNext old file.number (id_eq blob stored.seen.blob) new
 left_changes old file stored blob mid new plan opens test left = λ e.
     let so = opened_some old file old.current mid plan e opens in
     let some = is_some (plan_of mid.plans kind.Epoch e) in

@@ -9,6 +9,7 @@ use Rattle.std.proofs.lemmas.List.{append-nil}
 use Rattle.std.proofs.lemmas.List.Elements.{filter-append}
 use Rattle.std.proofs.lemmas.Option.{same_Some}
 use Rattle.arch_base.specs.declared.ids.ObjectId.{ObjectId}
+use Rattle.arch_base.specs.declared.ids.Form.{Form}
 use Rattle.arch_base.specs.declared.ids.Form.TheVariants as form
 use Rattle.disk_model.specs.declared.name.FileKind.{FileKind}
 use Rattle.disk_model.specs.declared.name.FileKind.TheVariants as kind
@@ -124,15 +125,15 @@ last_more (x ∷ es) e all =
     ap (greater x.epoch) rest ∙ greater_is x.epoch e.epoch all.0
 
 -- The bytes of entries as those of the entries of a file.
-chain_is : (parent : Option ObjectId) (es : List Entry) → entries_bytes parent es ≡ chain parent (in_files es)
+chain_is : (parent : Option ObjectId) (es : List Entry) → entries_bytes parent es ≡ chain form.Sha1 parent (in_files es)
 chain_is parent [] = refl
 chain_is parent (e ∷ es) = ap (λ (b : List ℕ). entry_bytes form.Sha1 e.kind e.text e.moment parent ++ b) (chain_is (Some (commit_id form.Sha1 e.kind e.text e.moment parent)) es)
 
-pub commit_is : (parent : Option ObjectId) (es : List Entry) → last_commit parent es ≡ last_of parent (in_files es)
+pub commit_is : (parent : Option ObjectId) (es : List Entry) → last_commit parent es ≡ last_of form.Sha1 parent (in_files es)
 commit_is parent [] = refl
 commit_is parent (e ∷ es) = commit_is (Some (commit_id form.Sha1 e.kind e.text e.moment parent)) es
 
-pub file_is : (es : List Entry) → epoch_bytes es ≡ file_of (in_files es)
+pub file_is : (es : List Entry) → epoch_bytes es ≡ file_of form.Sha1 (in_files es)
 file_is [] = refl
 file_is (e ∷ es) = ap (λ (b : List ℕ). magic form.Sha1 ++ b) (chain_is None (e ∷ es))
 
@@ -142,22 +143,22 @@ files_more (x ∷ es) e = ap (λ (l : List EpochEntry). in_file x ∷ l) (files_
 
 -- With one among them.
 chain_split : (parent : Option ObjectId) (xs : List Entry) (e : Entry) (ys : List Entry)
-    → chain parent (in_files (xs ++ e ∷ ys)) ≡ chain parent (in_files xs ++ in_file e ∷ []) ++ chain (Some (commit_after (last_of parent (in_files xs)) (in_file e))) (in_files ys)
-chain_split parent [] e ys = ap (λ (b : List ℕ). b ++ chain (Some (commit_after parent (in_file e))) (in_files ys)) (sym (append-nil (bytes_after parent (in_file e))))
+    → chain form.Sha1 parent (in_files (xs ++ e ∷ ys)) ≡ chain form.Sha1 parent (in_files xs ++ in_file e ∷ []) ++ chain form.Sha1 (Some (commit_after form.Sha1 (last_of form.Sha1 parent (in_files xs)) (in_file e))) (in_files ys)
+chain_split parent [] e ys = ap (λ (b : List ℕ). b ++ chain form.Sha1 (Some (commit_after form.Sha1 parent (in_file e))) (in_files ys)) (sym (append-nil (bytes_after form.Sha1 parent (in_file e))))
 chain_split parent (x ∷ xs) e ys =
-    let next : Option ObjectId = Some (commit_after parent (in_file x)) in
-    ap (λ (b : List ℕ). bytes_after parent (in_file x) ++ b) (chain_split next xs e ys)
-    ∙ sym (append_assoc (bytes_after parent (in_file x)) (chain next (in_files xs ++ in_file e ∷ [])) (chain (Some (commit_after (last_of next (in_files xs)) (in_file e))) (in_files ys)))
+    let next : Option ObjectId = Some (commit_after form.Sha1 parent (in_file x)) in
+    ap (λ (b : List ℕ). bytes_after form.Sha1 parent (in_file x) ++ b) (chain_split next xs e ys)
+    ∙ sym (append_assoc (bytes_after form.Sha1 parent (in_file x)) (chain form.Sha1 next (in_files xs ++ in_file e ∷ [])) (chain form.Sha1 (Some (commit_after form.Sha1 (last_of form.Sha1 next (in_files xs)) (in_file e))) (in_files ys)))
 
-whole_is : (xs : List Entry) (e : Entry) (ys : List Entry) → epoch_bytes (xs ++ e ∷ ys) ≡ magic form.Sha1 ++ chain None (in_files (xs ++ e ∷ ys))
+whole_is : (xs : List Entry) (e : Entry) (ys : List Entry) → epoch_bytes (xs ++ e ∷ ys) ≡ magic form.Sha1 ++ chain form.Sha1 None (in_files (xs ++ e ∷ ys))
 whole_is [] e ys = ap (λ (b : List ℕ). magic form.Sha1 ++ b) (chain_is None (e ∷ ys))
 whole_is (x ∷ xs) e ys = ap (λ (b : List ℕ). magic form.Sha1 ++ b) (chain_is None ((x ∷ xs) ++ e ∷ ys))
 
 -- What is kept of an entry is what is recorded of it in its file.
-pub seen_is : (es : List Entry) (e : Entry) → (stored_at es e).seen ≡ seen_after (in_files (in_epoch es e.epoch)) (in_file e)
-seen_is es e = λ i. seen_at (at i) (commit_is None (in_epoch es e.epoch) i) (in_file e) where
-  at : 8 + length (entries_bytes None (in_epoch es e.epoch)) ≡ length (epoch_of (in_files (in_epoch es e.epoch)))
-  at = ap (λ (b : List ℕ). 8 + length b) (chain_is None (in_epoch es e.epoch)) ∙ sym (length-append (magic form.Sha1) (chain None (in_files (in_epoch es e.epoch))))
+pub seen_is : (es : List Entry) (e : Entry) → (stored_at es e).seen ≡ seen_after form.Sha1 (in_files (in_epoch es e.epoch)) (in_file e)
+seen_is es e = λ i. seen_at form.Sha1 (at i) (commit_is None (in_epoch es e.epoch) i) (in_file e) where
+  at : 8 + length (entries_bytes None (in_epoch es e.epoch)) ≡ length (epoch_of form.Sha1 (in_files (in_epoch es e.epoch)))
+  at = ap (λ (b : List ℕ). 8 + length b) (chain_is None (in_epoch es e.epoch)) ∙ sym (length-append (magic form.Sha1) (chain form.Sha1 None (in_files (in_epoch es e.epoch))))
 
 -- The numbers of messages with a text, with one more entry.
 gone_step : (t : Bool) (n : ℕ) (ns more : List ℕ) → (if t then n ∷ (ns ++ more) else (ns ++ more)) ≡ (if t then n ∷ ns else ns) ++ more
@@ -207,6 +208,7 @@ pub record IsOpened (texts : Texts) (root : Root) (a : Archive) (es : List Entry
   pub map : (x : ℕ) → plan_of mid.plans kind.Map x ≡ None
   pub whole : (i : ℕ) (p : Plan) → slice_get mid.plans i ≡ Some p → IsPlanWhole texts p
   pub file : plan.file ≡ epoch_file_of root n
+  pub form_is : plan.form ≡ form.Sha1
   pub is : IsPlanned texts (in_files (in_epoch es n)) (in_files (in_epoch (without_text es text) n)) plan
 
 -- The bytes of an epoch by its plan, if it has one.
@@ -214,7 +216,7 @@ pub planned_none : (texts : Texts) (p : Option Plan) (before : List ℕ) → p �
 planned_none texts p before is = ap (λ (o : Option Plan). planned texts o before) is
 
 pub epochs_same : (es fs : List Entry) → in_files fs ≡ in_files es → epoch_bytes es ≡ epoch_bytes fs
-epochs_same es fs is = file_is es ∙ (ap file_of (sym is) ∙ sym (file_is fs))
+epochs_same es fs is = file_is es ∙ (ap (file_of form.Sha1) (sym is) ∙ sym (file_is fs))
 
 -- The current epoch was closed: epochs up to it are planned whole, and none after it.
 pub record IsShut (texts : Texts) (a : Archive) (es : List Entry) (text : List ℕ) (mid : Planning) : Type 0 where
@@ -249,7 +251,7 @@ module _ (texts : Texts) (root : Root) (a : Archive) (es : List Entry) (text : L
     before = λ x most. elim (equal_or_not x (last_epoch es)) [
       | inl x_is ↦
           let here : plan_of (old.plans ++ plan ∷ []) kind.Epoch x ≡ Some plan = of_more old.plans (plan ∷ []) kind.Epoch x (up.after x (omega (arith, x_is))) ∙ of_first plan [] kind.Epoch x (is_of_own plan kind.Epoch x of.kind (number_is ∙ sym x_is)) in
-          let written : written_by texts plan ≡ file_of (in_files (in_epoch (without_text es text) x)) = subst (λ (n : ℕ). written_by texts plan ≡ file_of (in_files (in_epoch (without_text es text) n))) (sym x_is) whole_so.2 in
+          let written : written_by texts plan ≡ file_of form.Sha1 (in_files (in_epoch (without_text es text) x)) = subst (λ (n : ℕ). written_by texts plan ≡ file_of form.Sha1 (in_files (in_epoch (without_text es text) n))) (sym x_is) whole_so.2 in
           ap (λ (o : Option Plan). planned texts o (bytes_in a x)) here
           ∙ (ap (λ (t : Target). bytes_by t (bytes_in a x) (written_by texts plan)) of.target ∙ (written ∙ (sym (file_is (in_epoch (without_text es text) x)) ∙ sym (keeps x most))))
       | inr other ↦
@@ -263,8 +265,10 @@ module _ (texts : Texts) (root : Root) (a : Archive) (es : List Entry) (text : L
     number_is : plan.number ≡ last_epoch es
     number_is = of.number ∙ ap (λ (f : FileName). f.number) current.0
 
-    whole_so : IsFinished texts (in_files (in_epoch es (last_epoch es))) (in_files (in_epoch (without_text es text) (last_epoch es))) (Some plan)
-    whole_so = finishes texts (in_files (in_epoch es (last_epoch es))) (in_files (in_epoch (without_text es text) (last_epoch es))) current.1
+    whole_so : IsFinished form.Sha1 texts (in_files (in_epoch es (last_epoch es))) (in_files (in_epoch (without_text es text) (last_epoch es))) (Some plan)
+    whole_so =
+        subst (λ (g : Form). IsFinished g texts (in_files (in_epoch es (last_epoch es))) (in_files (in_epoch (without_text es text) (last_epoch es))) (Some plan)) current.2
+        (finishes texts (in_files (in_epoch es (last_epoch es))) (in_files (in_epoch (without_text es text) (last_epoch es))) current.1)
 
 -- The next entry of an archive on its disk.
 module _ (k : Content) (v : StoreState) (cache : List ℕ) (a : Archive) (own : IsDiskWith v cache a k) (es rest : List Entry) (e : Entry) (is : a.entries ≡ es ++ e ∷ rest) (text : List ℕ) where
@@ -297,7 +301,7 @@ module _ (k : Content) (v : StoreState) (cache : List ℕ) (a : Archive) (own : 
   entry : IsEntry e
   entry = one_of_all IsEntry es e rest (subst (AllByRecursion IsEntry) is own.keeps.valid.entries)
 
-  bytes_are : bytes_in a e.epoch ≡ magic form.Sha1 ++ chain None (in_files (in_epoch es e.epoch ++ e ∷ in_epoch rest e.epoch))
+  bytes_are : bytes_in a e.epoch ≡ magic form.Sha1 ++ chain form.Sha1 None (in_files (in_epoch es e.epoch ++ e ∷ in_epoch rest e.epoch))
   bytes_are =
       ap (λ (l : List Entry). epoch_bytes (in_epoch l e.epoch)) is
       ∙ (ap epoch_bytes (in_epoch_split es e rest) ∙ whole_is (in_epoch es e.epoch) e (in_epoch rest e.epoch))
@@ -308,21 +312,21 @@ module _ (k : Content) (v : StoreState) (cache : List ℕ) (a : Archive) (own : 
       let generation = (get_or v.root.epochs e.epoch no_place).generation in
       let low = entry.epoch in
       let size = ap length bytes_are in
-      let parts = length-append (magic form.Sha1) (chain None (in_files (in_epoch es e.epoch ++ e ∷ in_epoch rest e.epoch))) in
+      let parts = length-append (magic form.Sha1) (chain form.Sha1 None (in_files (in_epoch es e.epoch ++ e ∷ in_epoch rest e.epoch))) in
       let long = own.keeps.names.epochs e.epoch (omega (arith, low)) in
       let some : 0 < (get_or v.root.epochs e.epoch no_place).length = omega (arith, size, parts, long) in
       own.on.exact.ends name (epoch_isnt_root e.epoch generation) ∙ text_named v.root (parts_of a cache) name (epoch_is_named v.root e.epoch generation (omega (arith, low)) some refl)
 
   -- Its file has it after those before.
-  pub has_next : HasNext (texts_in k) (epoch_file_of v.root e.epoch) (in_files (in_epoch es e.epoch)) (in_file e)
+  pub has_next : HasNext form.Sha1 (texts_in k) (epoch_file_of v.root e.epoch) (in_files (in_epoch es e.epoch)) (in_file e)
   has_next =
       let xs = in_epoch es e.epoch in
       let ys = in_epoch rest e.epoch in
-      let more = chain (Some (commit_after (last_of None (in_files xs)) (in_file e))) (in_files ys) in
+      let more = chain form.Sha1 (Some (commit_after form.Sha1 (last_of form.Sha1 None (in_files xs)) (in_file e))) (in_files ys) in
       record {
         valid = record { text = entry.text; moment = entry.moment };
         rest = more;
-        is = file_reads ∙ (bytes_are ∙ (ap (λ (b : List ℕ). magic form.Sha1 ++ b) (chain_split None xs e ys) ∙ sym (append_assoc (magic form.Sha1) (chain None (in_files xs ++ in_file e ∷ [])) more)));
+        is = file_reads ∙ (bytes_are ∙ (ap (λ (b : List ℕ). magic form.Sha1 ++ b) (chain_split None xs e ys) ∙ sym (append_assoc (magic form.Sha1) (chain form.Sha1 None (in_files xs ++ in_file e ∷ [])) more)));
       }
 
   module _ (old : Planning) (up : IsPlannedUpTo (texts_in k) v.root a es text old) (file : FileName) (file_by : file ≡ epoch_file_of v.root e.epoch) where
@@ -343,7 +347,7 @@ module _ (k : Content) (v : StoreState) (cache : List ℕ) (a : Archive) (own : 
     starts all =
         let here = in_epoch_none es e.epoch all in
         let kept = in_epoch_none (without_text es text) e.epoch (without_all (λ (f : Entry). f.epoch ≢ e.epoch) es text all) in
-        record { plan = ap in_files (kept ∙ sym here); parent = ap (λ (l : List Entry). last_of None (in_files l)) (sym kept) }
+        record { plan = ap in_files (kept ∙ sym here); parent = ap (λ (l : List Entry). last_of form.Sha1 None (in_files l)) (sym kept) }
 
     first : es ≡ [] → IsOpened (texts_in k) v.root a es text e.epoch (without_current old) (epoch_start file)
     first none =
@@ -357,6 +361,7 @@ module _ (k : Content) (v : StoreState) (cache : List ℕ) (a : Archive) (own : 
           map = up.map;
           whole = up.whole;
           file = file_by;
+          form_is = refl;
           is = starts (no e.epoch);
         }
 
@@ -371,6 +376,7 @@ module _ (k : Content) (v : StoreState) (cache : List ℕ) (a : Archive) (own : 
           map = up.map;
           whole = up.whole;
           file = here ∙ file_by;
+          form_is = current.2;
           is = subst (λ (n : ℕ). IsPlanned (texts_in k) (in_files (in_epoch es n)) (in_files (in_epoch (without_text es text) n)) c) epoch_is current.1;
         }
 
@@ -400,6 +406,7 @@ module _ (k : Content) (v : StoreState) (cache : List ℕ) (a : Archive) (own : 
             map = shut_so.map;
             whole = shut_so.whole;
             file = file_by;
+            form_is = refl;
             is = starts (no_more e.epoch less);
           }
 
@@ -413,7 +420,7 @@ module _ (k : Content) (v : StoreState) (cache : List ℕ) (a : Archive) (own : 
         subst (IsOpened (texts_in k) v.root a es text e.epoch mid) (sym next.1) (closed c current next.0 next.2.0 next.2.1 next.2.2 mid next.2.3)
 
   -- One more entry was planned.
-  module _ (mid : Planning) (plan : Planned) (open_ : IsOpened (texts_in k) v.root a es text e.epoch mid plan) (after : Planned) (after_file : after.file ≡ plan.file) where
+  module _ (mid : Planning) (plan : Planned) (open_ : IsOpened (texts_in k) v.root a es text e.epoch mid plan) (after : Planned) (after_file : after.file ≡ plan.file) (after_form : after.form ≡ plan.form) where
     here_more : in_files (in_epoch (es ++ e ∷ []) e.epoch) ≡ in_files (in_epoch es e.epoch) ++ in_file e ∷ []
     here_more = ap in_files (in_epoch-here es e e.epoch refl) ∙ files_more (in_epoch es e.epoch) e
 
@@ -432,9 +439,10 @@ module _ (k : Content) (v : StoreState) (cache : List ℕ) (a : Archive) (own : 
           after = λ x high. open_.after x (omega (arith, high, n));
           map = open_.map;
           whole = open_.whole;
-          current = subst (λ (m : ℕ). (after.file ≡ epoch_file_of v.root m) × IsPlanned (texts_in k) (in_files (in_epoch (es ++ e ∷ []) m)) (in_files (in_epoch (without_text (es ++ e ∷ []) text) m)) after) (sym n) (
+          current = subst (λ (m : ℕ). (after.file ≡ epoch_file_of v.root m) × IsPlanned (texts_in k) (in_files (in_epoch (es ++ e ∷ []) m)) (in_files (in_epoch (without_text (es ++ e ∷ []) text) m)) after × (after.form ≡ form.Sha1)) (sym n) (
             after_file ∙ open_.file,
             subst (λ (l : List EpochEntry). IsPlanned (texts_in k) l (in_files (in_epoch (without_text (es ++ e ∷ []) text) e.epoch)) after) (sym here_more) planned_so,
+            after_form ∙ open_.form_is,
           );
         }
 

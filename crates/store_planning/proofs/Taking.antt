@@ -4,7 +4,9 @@ use Rattle.std.specs.List.{AllByRecursion}
 use Rattle.std.specs.Str.{bytes_eq}
 use Rattle.std.proofs.Common.{◌∙◌, sym, ap, subst, inl, inr, arith}
 use Rattle.arch_base.specs.declared.ids.ObjectId.{ObjectId}
+use Rattle.arch_base.specs.declared.ids.Form.{Form}
 use Rattle.arch_base.specs.declared.ids.Form.TheVariants as form
+use Rattle.arch_base.specs.Ids.{id_eq}
 use Rattle.disk_model.specs.Disk.{Content, WhereTold}
 use Rattle.disk_model.specs.declared.name.FileName.{FileName}
 use Rattle.disk_model.specs.declared.refusal.WalkRefusal.{WalkRefusal}
@@ -15,7 +17,7 @@ use Rattle.root_change.specs.Rewriting.{Plan}
 use Rattle.root_change.specs.Texts.{Texts}
 use Rattle.arch_model.specs.Archives.{Entry, Archive, in_epoch, without_text}
 use Rattle.epoch_file.specs.Entries.{EpochEntry}
-use Rattle.epoch_file.specs.Planning.{HasNext, IsMoved, IsOfEpoch, KeepsNext, LacksText, Planned, EntryStays, TellsLack, texts_in}
+use Rattle.epoch_file.specs.Planning.{HasNext, IsMoved, IsOfEpoch, KeepsNext, LacksText, Planned, EntryStays, TellsLack, seen_after, texts_in}
 use Rattle.epoch_file.specs.declared.entry.Seen.{Seen}
 use Rattle.store_finding.specs.declared.entries.StoredEntry.{StoredEntry}
 use Rattle.store_planning.specs.DamagedTexts.{DamageBy, IsDamageOf}
@@ -28,34 +30,37 @@ use Rattle.store_finding.proofs.TextBytes.{one_of_all}
 
 -- An entry has the text exactly if it has the blob id.
 abbrev pub Picks : ObjectId → List ℕ → Entry → Type 0
-Picks blob text e = bytes_eq blob.0 (blob_id_of form.Sha1 e.text).0 ≡ bytes_eq text e.text
+Picks blob text e = id_eq blob (blob_id_of form.Sha1 e.text) ≡ bytes_eq text e.text
 
 -- An entry was left out, or stays.
-pub take_left : (old : Planning) (file : FileName) (stored : StoredEntry) (blob : ObjectId) (content : Option Content) (mid new : Planning) (plan : Planned) → OpensPlan old file mid plan → bytes_eq blob.0 stored.seen.blob.0 ≡ true → LeavesOut mid plan stored new → PlansNext old file stored blob content new (Ok tt)
+pub take_left : (old : Planning) (file : FileName) (stored : StoredEntry) (blob : ObjectId) (content : Option Content) (mid new : Planning) (plan : Planned) → OpensPlan old file mid plan → id_eq blob stored.seen.blob ≡ true → LeavesOut mid plan stored new → PlansNext old file stored blob content new (Ok tt)
 take_left old file stored blob None mid new plan opens test left = tt
 take_left old file stored blob (Some k) mid new plan opens test left = λ v cache a es rest e text own is stored_is file_is picks up.
     let open_ = opened k v cache a own es rest e is text old up file file_is old.current up.current mid plan opens in
     let after = left.0 in
-    let blob_is : bytes_eq blob.0 stored.seen.blob.0 ≡ bytes_eq blob.0 (blob_id_of form.Sha1 e.text).0 = ap (λ (s : StoredEntry). bytes_eq blob.0 s.seen.blob.0) stored_is in
+    let blob_is : id_eq blob stored.seen.blob ≡ id_eq blob (blob_id_of form.Sha1 e.text) = ap (λ (s : StoredEntry). id_eq blob s.seen.blob) stored_is in
     let this : bytes_eq text e.text ≡ true = sym (one_of_all (Picks blob text) es e rest (subst (AllByRecursion (Picks blob text)) is picks)) ∙ (sym blob_is ∙ test) in
-    let next : HasNext (texts_in k) plan.file (in_files (in_epoch es e.epoch)) (in_file e) = subst (λ (f : FileName). HasNext (texts_in k) f (in_files (in_epoch es e.epoch)) (in_file e)) (sym open_.file) (has_next k v cache a own es rest e is text) in
-    let planned_so = left.1 (texts_in k) (in_files (in_epoch es e.epoch)) (in_files (in_epoch (without_text es text) e.epoch)) (in_file e) open_.is next (ap (λ (s : StoredEntry). s.seen) stored_is ∙ seen_is es e) in
-    let so = up_left k v cache a own es rest e is text mid plan open_ after left.2 this planned_so in
+    let next : HasNext plan.form (texts_in k) plan.file (in_files (in_epoch es e.epoch)) (in_file e) = (subst (λ (g : Form). HasNext g (texts_in k) plan.file (in_files (in_epoch es e.epoch)) (in_file e)) (sym open_.form_is) (subst (λ (f : FileName). HasNext form.Sha1 (texts_in k) f (in_files (in_epoch es e.epoch)) (in_file e)) (sym open_.file) (has_next k v cache a own es rest e is text))) in
+    let seen_so : stored.seen ≡ seen_after plan.form (in_files (in_epoch es e.epoch)) (in_file e) = ap (λ (s : StoredEntry). s.seen) stored_is ∙ (seen_is es e ∙ ap (λ (g : Form). seen_after g (in_files (in_epoch es e.epoch)) (in_file e)) (sym open_.form_is)) in
+    let planned_so = left.1 (texts_in k) (in_files (in_epoch es e.epoch)) (in_files (in_epoch (without_text es text) e.epoch)) (in_file e) open_.is next seen_so in
+    let so = up_left k v cache a own es rest e is text mid plan open_ after left.2 left.6 this planned_so in
     let new_is : new ≡ with_entries mid mid.entries (gone_with e.kind mid.gone e.number) after = left.3 ∙ ap (λ (s : StoredEntry). with_entries mid mid.entries (gone_with s.seen.kind mid.gone s.number) after) stored_is in
     subst (IsPlannedUpTo (texts_in k) v.root a (es ++ e ∷ []) text) (sym new_is) so
 
-pub take_kept : (old : Planning) (file : FileName) (stored : StoredEntry) (blob : ObjectId) (content : Option Content) (mid new : Planning) (plan : Planned) → OpensPlan old file mid plan → bytes_eq blob.0 stored.seen.blob.0 ≡ false → PlansEntry mid plan stored content new → PlansNext old file stored blob content new (Ok tt)
+pub take_kept : (old : Planning) (file : FileName) (stored : StoredEntry) (blob : ObjectId) (content : Option Content) (mid new : Planning) (plan : Planned) → OpensPlan old file mid plan → id_eq blob stored.seen.blob ≡ false → PlansEntry mid plan stored content new → PlansNext old file stored blob content new (Ok tt)
 take_kept old file stored blob None mid new plan opens test keeps = tt
 take_kept old file stored blob (Some k) mid new plan opens test keeps = λ v cache a es rest e text own is stored_is file_is picks up.
     let open_ = opened k v cache a own es rest e is text old up file file_is old.current up.current mid plan opens in
-    let blob_is : bytes_eq blob.0 stored.seen.blob.0 ≡ bytes_eq blob.0 (blob_id_of form.Sha1 e.text).0 = ap (λ (s : StoredEntry). bytes_eq blob.0 s.seen.blob.0) stored_is in
+    let blob_is : id_eq blob stored.seen.blob ≡ id_eq blob (blob_id_of form.Sha1 e.text) = ap (λ (s : StoredEntry). id_eq blob s.seen.blob) stored_is in
     let other : bytes_eq text e.text ≡ false = sym (one_of_all (Picks blob text) es e rest (subst (AllByRecursion (Picks blob text)) is picks)) ∙ (sym blob_is ∙ test) in
-    let next : HasNext (texts_in k) plan.file (in_files (in_epoch es e.epoch)) (in_file e) = subst (λ (f : FileName). HasNext (texts_in k) f (in_files (in_epoch es e.epoch)) (in_file e)) (sym open_.file) (has_next k v cache a own es rest e is text) in
-    let kept = keeps.kept (in_files (in_epoch es e.epoch)) (in_files (in_epoch (without_text es text) e.epoch)) (in_file e) open_.is next (ap (λ (s : StoredEntry). s.seen) stored_is ∙ seen_is es e) in
+    let next : HasNext plan.form (texts_in k) plan.file (in_files (in_epoch es e.epoch)) (in_file e) = (subst (λ (g : Form). HasNext g (texts_in k) plan.file (in_files (in_epoch es e.epoch)) (in_file e)) (sym open_.form_is) (subst (λ (f : FileName). HasNext form.Sha1 (texts_in k) f (in_files (in_epoch es e.epoch)) (in_file e)) (sym open_.file) (has_next k v cache a own es rest e is text))) in
+    let seen_so : stored.seen ≡ seen_after plan.form (in_files (in_epoch es e.epoch)) (in_file e) = ap (λ (s : StoredEntry). s.seen) stored_is ∙ (seen_is es e ∙ ap (λ (g : Form). seen_after g (in_files (in_epoch es e.epoch)) (in_file e)) (sym open_.form_is)) in
+    let kept = keeps.kept (in_files (in_epoch es e.epoch)) (in_files (in_epoch (without_text es text) e.epoch)) (in_file e) open_.is next seen_so in
     let made = kept_anew stored keeps.seen in
-    let seen_so : keeps.seen ≡ (stored_at (without_text es text) e).seen = kept.0 ∙ sym (seen_is (without_text es text) e) in
-    let made_is : made ≡ stored_at (without_text es text) e = λ i. record { number = (ap (λ (s : StoredEntry). s.number) stored_is) i; epoch = (ap (λ (s : StoredEntry). s.epoch) stored_is) i; seen = seen_so i } in
-    subst (IsPlannedUpTo (texts_in k) v.root a (es ++ e ∷ []) text) (sym keeps.new_is) (up_kept k v cache a own es rest e is text mid plan open_ keeps.after keeps.file made other made_is kept.1)
+    let made_seen : keeps.seen ≡ (stored_at (without_text es text) e).seen =
+    kept.0 ∙ (ap (λ (g : Form). seen_after g (in_files (in_epoch (without_text es text) e.epoch)) (in_file e)) open_.form_is ∙ sym (seen_is (without_text es text) e)) in
+    let made_is : made ≡ stored_at (without_text es text) e = λ i. record { number = (ap (λ (s : StoredEntry). s.number) stored_is) i; epoch = (ap (λ (s : StoredEntry). s.epoch) stored_is) i; seen = made_seen i } in
+    subst (IsPlannedUpTo (texts_in k) v.root a (es ++ e ∷ []) text) (sym keeps.new_is) (up_kept k v cache a own es rest e is text mid plan open_ keeps.after keeps.file keeps.form made other made_is kept.1)
 
 -- No damage is found on an archive's disk.
 not_damaged : (texts : Texts) (root : Root) (a : Archive) (es : List Entry) (e : Entry) (text : List ℕ) (file : FileName) (new : Planning) (refusal : WalkRefusal) → IsNoDamage refusal → GivesNext texts root a es e text new (Err (refusal_in file refusal))
@@ -67,18 +72,19 @@ pub take_refused : (old : Planning) (file : FileName) (stored : StoredEntry) (bl
 take_refused old file stored blob None mid new plan refusal opens refuses = tt
 take_refused old file stored blob (Some k) mid new plan refusal opens refuses = λ v cache a es rest e text own is stored_is file_is picks up.
     let open_ = opened k v cache a own es rest e is text old up file file_is old.current up.current mid plan opens in
-    let next : HasNext (texts_in k) plan.file (in_files (in_epoch es e.epoch)) (in_file e) = subst (λ (f : FileName). HasNext (texts_in k) f (in_files (in_epoch es e.epoch)) (in_file e)) (sym open_.file) (has_next k v cache a own es rest e is text) in
-    not_damaged (texts_in k) v.root a es e text file new refusal (refuses (in_files (in_epoch es e.epoch)) (in_files (in_epoch (without_text es text) e.epoch)) (in_file e) open_.is next (ap (λ (s : StoredEntry). s.seen) stored_is ∙ seen_is es e))
+    let next : HasNext plan.form (texts_in k) plan.file (in_files (in_epoch es e.epoch)) (in_file e) = (subst (λ (g : Form). HasNext g (texts_in k) plan.file (in_files (in_epoch es e.epoch)) (in_file e)) (sym open_.form_is) (subst (λ (f : FileName). HasNext form.Sha1 (texts_in k) f (in_files (in_epoch es e.epoch)) (in_file e)) (sym open_.file) (has_next k v cache a own es rest e is text))) in
+    let seen_so : stored.seen ≡ seen_after plan.form (in_files (in_epoch es e.epoch)) (in_file e) = ap (λ (s : StoredEntry). s.seen) stored_is ∙ (seen_is es e ∙ ap (λ (g : Form). seen_after g (in_files (in_epoch es e.epoch)) (in_file e)) (sym open_.form_is)) in
+    not_damaged (texts_in k) v.root a es e text file new refusal (refuses (in_files (in_epoch es e.epoch)) (in_files (in_epoch (without_text es text) e.epoch)) (in_file e) open_.is next seen_so)
 
 -- What keeping an entry says of a refusal.
-stays_none : (texts : Texts) (es kept : List EpochEntry) (e : EpochEntry) (after : Planned) (refusal : WalkRefusal) → EntryStays texts es kept e after (Err refusal) → IsNoDamage refusal
-stays_none texts es kept e after DiskFault stays = tt
-stays_none texts es kept e after NoMemory stays = tt
-stays_none texts es kept e after (Damaged at) stays = stays
+stays_none : (of : Form) (texts : Texts) (es kept : List EpochEntry) (e : EpochEntry) (after : Planned) (refusal : WalkRefusal) → EntryStays of texts es kept e after (Err refusal) → IsNoDamage refusal
+stays_none of texts es kept e after DiskFault stays = tt
+stays_none of texts es kept e after NoMemory stays = tt
+stays_none of texts es kept e after (Damaged at) stays = stays
 
 pub refuses_entry : (plan after : Planned) (stored : StoredEntry) (content : Option Content) (refusal : WalkRefusal) → WhereTold (KeepsNext plan stored.seen after (Err refusal)) content → RefusesPlanned plan stored content refusal
 refuses_entry plan after stored None refusal keeps = tt
-refuses_entry plan after stored (Some k) refusal keeps = λ es kept e planned_so next is. stays_none (texts_in k) es kept e after refusal (keeps es kept e planned_so next is)
+refuses_entry plan after stored (Some k) refusal keeps = λ es kept e planned_so next is. stays_none plan.form (texts_in k) es kept e after refusal (keeps es kept e planned_so next is)
 
 -- The plan that is opened is that of the file, so the damage of an entry is in it.
 opened_file : (old : Planning) (file : FileName) (current : Option Planned) (mid : Planning) (plan : Planned) → OpensBy old file current mid plan → plan.file ≡ file
@@ -86,11 +92,15 @@ opened_file old file None mid plan by = ap (λ (c : Planned). c.file) by.1
 opened_file old file (Some c) mid plan (inl here) = ap (λ (d : Planned). d.file) here.1 ∙ here.0
 opened_file old file (Some c) mid plan (inr next) = ap (λ (d : Planned). d.file) next.1
 
-pub take_damage : (old : Planning) (file : FileName) (stored : StoredEntry) (content : Option Content) (mid : Planning) (plan : Planned) (refusal : WalkRefusal) → OpensPlan old file mid plan → TellsLack plan.file stored.seen content refusal → DamageBy (refusal_in file refusal) (IsDamageOf file stored content)
-take_damage old file stored content mid plan DiskFault opens lack = tt
-take_damage old file stored content mid plan NoMemory opens lack = tt
-take_damage old file stored content mid plan (Damaged at) opens lack =
-    (refl, lack.0, subst (λ (f : FileName). WhereTold (LacksText f stored.seen) content) (opened_file old file old.current mid plan opens) lack.1)
+pub take_damage : (old : Planning) (file : FileName) (stored : StoredEntry) (content : Option Content) (mid : Planning) (plan : Planned) (refusal : WalkRefusal) → OpensPlan old file mid plan → plan.form ≡ form.Sha1 → TellsLack plan.form plan.file stored.seen content refusal → DamageBy (refusal_in file refusal) (IsDamageOf file stored content)
+take_damage old file stored content mid plan DiskFault opens form_is lack = tt
+take_damage old file stored content mid plan NoMemory opens form_is lack = tt
+take_damage old file stored content mid plan (Damaged at) opens form_is lack = (
+  refl,
+  lack.0,
+  subst (λ (f : FileName). WhereTold (LacksText form.Sha1 f stored.seen) content) (opened_file old file old.current mid plan opens)
+      (subst (λ (g : Form). WhereTold (LacksText g plan.file stored.seen) content) form_is lack.1),
+)
 
 -- Opening the plan of a file leaves what is kept of the entries.
 closed_entries : (old : Planning) (finished : Option Plan) (new : Planning) → ClosesAs old finished new → new.entries ≡ old.entries
@@ -119,14 +129,14 @@ drops_step : (t : Bool) (old new : List StoredEntry) (stored : StoredEntry) → 
 drops_step true old new stored is same = same
 drops_step false old new stored is same = absurd (let wrong : false ≡ true = is in cc)
 
-pub kept_but : (old : Planning) (file : FileName) (stored : StoredEntry) (blob : ObjectId) (content : Option Content) (mid new : Planning) (plan : Planned) → OpensPlan old file mid plan → bytes_eq blob.0 stored.seen.blob.0 ≡ false → PlansEntry mid plan stored content new → KeepsBut (bytes_eq blob.0 stored.seen.blob.0) old.entries stored new.entries
+pub kept_but : (old : Planning) (file : FileName) (stored : StoredEntry) (blob : ObjectId) (content : Option Content) (mid new : Planning) (plan : Planned) → OpensPlan old file mid plan → id_eq blob stored.seen.blob ≡ false → PlansEntry mid plan stored content new → KeepsBut (id_eq blob stored.seen.blob) old.entries stored new.entries
 kept_but old file stored blob content mid new plan opens test keeps =
-    keeps_step (bytes_eq blob.0 stored.seen.blob.0) old.entries new.entries stored (kept_anew stored keeps.seen) test (moved_kept stored keeps.seen keeps.moved)
+    keeps_step (id_eq blob stored.seen.blob) old.entries new.entries stored (kept_anew stored keeps.seen) test (moved_kept stored keeps.seen keeps.moved)
     (ap (λ (p : Planning). p.entries) keeps.new_is ∙ ap (λ (l : List StoredEntry). l ++ kept_anew stored keeps.seen ∷ []) (opened_entries old file mid plan opens))
 
-pub left_but : (old : Planning) (file : FileName) (stored : StoredEntry) (blob : ObjectId) (mid new : Planning) (plan : Planned) → OpensPlan old file mid plan → bytes_eq blob.0 stored.seen.blob.0 ≡ true → LeavesOut mid plan stored new → KeepsBut (bytes_eq blob.0 stored.seen.blob.0) old.entries stored new.entries
+pub left_but : (old : Planning) (file : FileName) (stored : StoredEntry) (blob : ObjectId) (mid new : Planning) (plan : Planned) → OpensPlan old file mid plan → id_eq blob stored.seen.blob ≡ true → LeavesOut mid plan stored new → KeepsBut (id_eq blob stored.seen.blob) old.entries stored new.entries
 left_but old file stored blob mid new plan opens test left =
-    drops_step (bytes_eq blob.0 stored.seen.blob.0) old.entries new.entries stored test (ap (λ (p : Planning). p.entries) left.3 ∙ opened_entries old file mid plan opens)
+    drops_step (id_eq blob stored.seen.blob) old.entries new.entries stored test (ap (λ (p : Planning). p.entries) left.3 ∙ opened_entries old file mid plan opens)
 
 -- All plans stay those of a root.
 plan_in : (root : Root) (c : Planned) (plan : Plan) → IsFileIn root (Some c) → IsOfEpoch c.file (Some plan) → IsPlanIn root plan

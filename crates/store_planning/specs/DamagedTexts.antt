@@ -1,5 +1,6 @@
 -- The damage that a purge or an edit tells: which file it is in, and where.
 use Rattle.std.specs.Prelude.{◌≡◌, ◌⊎◌, ◌<◌, ℕ, length, slice_get, Option, Some, Result, Ok, Err}
+use Rattle.arch_base.specs.declared.ids.Form.TheVariants as form
 use Rattle.disk_model.specs.declared.name.FileKind.{FileKind}
 use Rattle.disk_model.specs.declared.name.FileName.{FileName}
 use Rattle.disk_model.specs.Disk.{Content, WhereTold, bytes_of}
@@ -54,4 +55,4 @@ IfDamaged (Err why) P = DamageBy why P
 -- where the disk tells its content.
 abbrev pub IsDamageOf : FileName → StoredEntry → Option Content → FileName → ℕ → Type 0
 IsDamageOf own entry content file at = (file ≡ own) × (at ≡ entry.seen.at)
-    × WhereTold (LacksText own entry.seen) content
+    × WhereTold (LacksText form.Sha1 own entry.seen) content

@@ -1,8 +1,9 @@
 -- What stays of the entries that are kept, where they end, and errors that tell no damage.
-use Rattle.std.specs.Prelude.{not, ◌≡◌, ℕ, List, None, Result, Ok, Err}
+use Rattle.std.specs.Prelude.{not, ◌≡◌, List, None, Result, Ok, Err}
 use Rattle.std.specs.List.{filter}
-use Rattle.std.specs.Str.{bytes_eq}
-use Rattle.arch_model.specs.Archives.{Entry, Archive, in_epoch}
+use Rattle.arch_base.specs.Ids.{id_eq}
+use Rattle.arch_base.specs.declared.ids.ObjectId.{ObjectId}
+use Rattle.arch_model.specs.Archives.{Archive, in_epoch}
 use Rattle.arch_model.specs.Delivery.{last_epoch}
 use Rattle.arch_model.specs.Epochs.{last_commit}
 use Rattle.epoch_file.specs.declared.refusal.StoreRefusal.{StoreRefusal}
@@ -26,8 +27,8 @@ SeesNoDamage (Ok given) = Unit {0}
 SeesNoDamage (Err why) = IsUndamagedStore why
 
 -- The entries that are kept but those with a blob id.
-abbrev pub without_blob : List StoredEntry → List ℕ → List StoredEntry
-without_blob entries blob = filter (λ (e : StoredEntry). not (bytes_eq blob e.seen.blob.0)) entries
+abbrev pub without_blob : List StoredEntry → ObjectId → List StoredEntry
+without_blob entries blob = filter (λ (e : StoredEntry). not (id_eq blob e.seen.blob)) entries
 
 -- An entry was kept of the one before: in the same epoch, under its number, with the ids of its text.
 -- Its offset and its commit may be others.

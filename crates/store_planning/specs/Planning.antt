@@ -4,6 +4,7 @@ use Rattle.std.specs.List.{AllByRecursion, AllZip, list_any}
 use Rattle.std.specs.Str.{bytes_eq}
 use Rattle.arch_base.specs.declared.ids.ObjectId.{ObjectId}
 use Rattle.arch_base.specs.declared.ids.Form.TheVariants as form
+use Rattle.arch_base.specs.Ids.{id_eq}
 use Rattle.disk_model.specs.declared.name.FileKind.{FileKind}
 use Rattle.disk_model.specs.declared.name.FileKind.TheVariants as kind
 use Rattle.disk_model.specs.declared.name.FileName.{FileName}
@@ -51,10 +52,10 @@ in_files [] = []
 in_files (e ∷ es) = in_file e ∷ in_files es
 
 -- The numbers of the messages among entries with a blob id, in order.
-abbrev pub gone_numbers : List StoredEntry → List ℕ → List ℕ
+abbrev pub gone_numbers : List StoredEntry → ObjectId → List ℕ
 gone_numbers [] blob = []
 gone_numbers (e ∷ es) blob =
-    if is_message e.seen.kind && bytes_eq blob e.seen.blob.0
+    if is_message e.seen.kind && id_eq blob e.seen.blob
     then e.number ∷ gone_numbers es blob else gone_numbers es blob
 
 -- A message of the archive has the text.
@@ -80,14 +81,14 @@ pub record IsReadyPlan (root : Root) (plans : List Plan) (next : ℕ) : Type 0 w
   pub map_anew : map_plan.target ≡ Anew
 
 -- An entry of an epoch has a blob id.
-abbrev pub loses : List StoredEntry → List ℕ → ℕ → Bool
+abbrev pub loses : List StoredEntry → ObjectId → ℕ → Bool
 loses entries blob epoch =
-    list_any (λ (e : StoredEntry). bytes_eq blob e.seen.blob.0 && e.epoch == epoch) entries
+    list_any (λ (e : StoredEntry). id_eq blob e.seen.blob && e.epoch == epoch) entries
 
 -- Just the epochs with an entry that has a blob id are planned.
 abbrev pub PlansLost : List StoredEntry → ObjectId → List Plan → Type 0
 PlansLost entries blob plans =
-    (e : ℕ) → is_some (plan_of plans kind.Epoch e) ≡ loses entries blob.0 e
+    (e : ℕ) → is_some (plan_of plans kind.Epoch e) ≡ loses entries blob e
 
 -- Each of these parts is written anew.
 abbrev pub AreAnew : List Plan → Type 0
@@ -97,7 +98,7 @@ AreAnew plans = (i : ℕ) (plan : Plan) → slice_get plans i ≡ Some plan → 
 -- and what is written.
 pub record PlansPurge (v : StoreState) (blob : ObjectId) (entries : List StoredEntry) (plans : List Plan)
     : Type 0 where
-  pub kept : AllZip KeptOf (without_blob v.entries blob.0) entries
+  pub kept : AllZip KeptOf (without_blob v.entries blob) entries
   pub ready : IsReadyPlan v.root plans v.root.next
   pub anew : AreAnew plans
   pub lost : PlansLost v.entries blob plans
@@ -138,12 +139,18 @@ no_planning = record { plans = []; entries = []; gone = []; current = None }
 abbrev pub AreValid : List Plan → Type 0
 AreValid plans = (i : ℕ) (plan : Plan) → slice_get plans i ≡ Some plan → IsPlan plan
 
--- What always holds of a planner: its plans are valid, each is that of another part, and the numbers
--- rise up to this one.
+-- The plan of the current epoch is of its form.
+abbrev pub HasForm : Option Planned → Type 0
+HasForm None = Unit {0}
+HasForm (Some c) = c.form ≡ form.Sha1
+
+-- What always holds of a planner: its plans are valid, each is that of another part, the numbers rise
+-- up to this one, and the current epoch has its form.
 pub record IsPlanning (top : ℕ) (p : Planning) : Type 0 where
   pub apart : AreApart p.plans
   pub valid : AreValid p.plans
   pub gone : RisesUpTo 1 top p.gone
+  pub form : HasForm p.current
 
 -- The current epoch is none of those that are planned.
 abbrev pub PlansApart : List Plan → Option Planned → Type 0
@@ -245,7 +252,7 @@ abbrev pub IsCurrent : Texts → Root → List Entry → List ℕ → Option Pla
 IsCurrent texts root es text None = es ≡ []
 IsCurrent texts root es text (Some c) = (c.file ≡ epoch_file_of root (last_epoch es))
     × IsPlanned texts (in_files (in_epoch es (last_epoch es)))
-    (in_files (in_epoch (without_text es text) (last_epoch es))) c
+    (in_files (in_epoch (without_text es text) (last_epoch es))) c × (c.form ≡ form.Sha1)
 
 -- Epochs before the current one are planned whole, and none after it.
 pub record IsPlannedUpTo (texts : Texts) (root : Root) (a : Archive) (es : List Entry)
@@ -262,7 +269,7 @@ pub record IsPlannedUpTo (texts : Texts) (root : Root) (a : Archive) (es : List 
 -- Of the entries of an archive those with a blob id are those with a text.
 abbrev pub PicksText : Archive → ObjectId → List ℕ → Type 0
 PicksText a blob text = AllByRecursion (λ (e : Entry).
-    bytes_eq blob.0 (blob_id_of form.Sha1 e.text).0 ≡ bytes_eq text e.text) a.entries
+    id_eq blob (blob_id_of form.Sha1 e.text) ≡ bytes_eq text e.text) a.entries
 
 -- After a call the entries of an archive up to this one are planned, where a text is left out. Nothing
 -- is damaged.
@@ -329,7 +336,8 @@ without_current p = record { plans = p.plans; entries = p.entries; gone = p.gone
 
 -- The plan of an epoch before its first entry.
 abbrev pub epoch_start : FileName → Planned
-epoch_start file = record { file = file; changed = None; end_ = 8; parent = None }
+epoch_start file =
+    record { file = file; changed = None; end_ = 8; parent = None; form = form.Sha1 }
 
 -- The plan of a file is the current one, or a new one, for which the current one is closed.
 abbrev pub OpensBy : Planning → FileName → Option Planned → Planning → Planned → Type 0
@@ -368,7 +376,7 @@ LeavesOut old plan e new = (after : Planned) × LeavesNext plan e.seen after
     × (new ≡ with_entries old old.entries (gone_with e.seen.kind old.gone e.number) after)
     × (is_some after.changed ≡ true)
     × ((from most : ℕ) → EntryLiesIn from most e.seen → IsPlannedIn most plan
-    → LeftOutIn from most plan e.seen after)
+    → LeftOutIn from most plan e.seen after) × (after.form ≡ plan.form)
 
 -- An entry as it is kept in the new file.
 abbrev pub kept_anew : StoredEntry → Seen → StoredEntry
@@ -383,6 +391,7 @@ pub record PlansEntry (old : Planning) (plan : Planned) (e : StoredEntry)
   pub kept : WhereTold (KeepsNext plan e.seen after (Ok seen)) content
   pub moved : (at : ℕ) × (commit : ObjectId) × IsMoved e.seen at commit seen
   pub file : after.file ≡ plan.file
+  pub form : after.form ≡ plan.form
   pub going : is_some after.changed ≡ is_some plan.changed
   pub some : is_some after.parent ≡ true
   pub lies : (from most : ℕ) → EntryLiesIn from most e.seen → IsPlannedIn most plan
@@ -398,8 +407,8 @@ IsNoDamage _ = Unit {0}
 abbrev pub RefusesPlanned : Planned → StoredEntry → Option Content → WalkRefusal → Type 0
 RefusesPlanned plan e content refusal = WhereTold (λ (k : Content).
     (es kept : List EpochEntry) (next : EpochEntry) → IsPlanned (texts_in k) es kept plan
-    → HasNext (texts_in k) plan.file es next → e.seen ≡ seen_after es next → IsNoDamage refusal)
-    content
+    → HasNext plan.form (texts_in k) plan.file es next → e.seen ≡ seen_after plan.form es next
+    → IsNoDamage refusal) content
 
 -- The current epoch is closed, if there is one.
 abbrev pub ClosesLast : Planning → Option Planned → Planning → Type 0

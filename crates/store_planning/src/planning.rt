@@ -1,9 +1,9 @@
 //! Plans an archive without the entries of a text.
 //! Reads the disk.
 ghost use Rattle.std.specs.Prelude.{◌≡◌, ◌+◌, ◌*◌, ◌≤◌, ◌++◌, [], ◌∷◌, Some, None, Err, IfErr, IfOk, OnOk};
-ghost use Rattle.std.specs.Str.{bytes_eq};
 ghost use Rattle.arch_base.specs.Counts.{RoseIf};
 ghost use Rattle.arch_base.specs.declared.ids.Form.TheVariants as form;
+ghost use Rattle.arch_base.specs.Ids.{id_eq};
 ghost use Rattle.disk_model.specs.Sizes.{greatest_epoch, record_size};
 ghost use Rattle.root_slots.specs.declared.root.Root.{Root};
 ghost use Rattle.root_slots.specs.Valid.{IsRoot};
@@ -21,7 +21,7 @@ ghost use Rattle.store_finding.specs.Kept.{InEpochs, stored_after};
 ghost use Rattle.store_planning.specs.Dropping.{IsStoreEnd};
 
 use crate::next::End;
-use arch_base::{MessageNumbers, NoMemory, ObjectId};
+use arch_base::{Form, MessageNumbers, NoMemory, ObjectId};
 use disk_model::{Disk, FileKind, FileName, WalkRefusal};
 use epoch_file::{EpochPlan, StoreRefusal};
 use git_objects::EntryKind;
@@ -104,12 +104,12 @@ impl Planner {
             result }
         ensures damage { IfDamaged result (IsDamageOf file entry.now (D.content disk.old)) }
         // Whatever the disk holds.
-        ensures kept { OnOk result (KeepsBut (bytes_eq blob.now.0 entry.now.seen.blob.0)
+        ensures kept { OnOk result (KeepsBut (id_eq blob.now entry.now.seen.blob)
             self.old.entries entry.now self.new.entries) }
         ensures plans { (root : Root) → file ≡ epoch_file_of root entry.now.epoch
             → ArePlansIn root self.old → OnOk result (ArePlansIn root self.new) }
         ensures changes { OnOk result (ChangesNext self.old file.number
-            (bytes_eq blob.now.0 entry.now.seen.blob.0) self.new) }
+            (id_eq blob.now entry.now.seen.blob) self.new) }
         ensures lies { OnOk result (PlanTakes self.old file entry.now self.new) }
         ensures reads { OnlyReads D.Disk disk.old disk.new }
         ensures fewest { D.reads disk.old ≤ D.reads disk.new }
@@ -129,6 +129,7 @@ impl Planner {
 
     /// Leaves an entry out of the current epoch, which is planned so far.
     fn leave_out(&mut self, plan: EpochPlan, entry: &StoredEntry) -> Result<(), NoMemory>
+        requires { plan.form ≡ form.Sha1 }
         ensures { OnOk result (LeavesOut self.old plan entry.now self.new) }
     {
         let mut plan = plan;
@@ -145,10 +146,11 @@ impl Planner {
         plan: EpochPlan,
         entry: &StoredEntry,
     ) -> Result<(), WalkRefusal>
+        requires form { plan.form ≡ form.Sha1 }
         ensures kept { OnOk result (PlansEntry self.old plan entry.now (D.content disk.old) self.new) }
         ensures refused { IfErr result (λ refusal.
             RefusesPlanned plan entry.now (D.content disk.old) refusal) }
-        ensures damage { IfErr result (TellsLack plan.file entry.now.seen (D.content disk.old)) }
+        ensures damage { IfErr result (TellsLack plan.form plan.file entry.now.seen (D.content disk.old)) }
         ensures reads { OnlyReads D.Disk disk.old disk.new }
         ensures fewest { D.reads disk.old ≤ D.reads disk.new }
         ensures cause { RoseIf (result ≡ Err WalkRefusal.DiskFault) (D.faults disk.old)
@@ -176,15 +178,16 @@ impl Planner {
     fn open(&mut self, file: FileName) -> Result<EpochPlan, NoMemory>
         requires { PlansApart self.old.plans self.old.current }
         ensures opened { IfOk result (OpensPlan self.old file self.new) }
+        ensures form { IfOk result (λ plan. plan.form ≡ form.Sha1) }
     {
         let Some(plan) = self.current.take() else {
-            return Ok(EpochPlan::new(file));
+            return Ok(EpochPlan::new(file, Form::Sha1));
         };
         if plan.file() == file {
             return Ok(plan);
         }
         self.close(plan)?;
-        Ok(EpochPlan::new(file))
+        Ok(EpochPlan::new(file, Form::Sha1))
     }
 
     /// Keeps the plan of an epoch whose entries have all been taken, if it loses one.
@@ -286,7 +289,7 @@ impl Planner {
             // Not of an archive.
             return Err(NoMemory);
         }
-        let plan = plan_without(self.alloc, map, count, &self.gone)?;
+        let plan = plan_without(self.alloc, map, count, &self.gone, Form::Sha1)?;
         self.push(plan)?;
         Ok(())
     }

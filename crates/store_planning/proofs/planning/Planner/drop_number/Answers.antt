@@ -15,4 +15,5 @@ invariant_of-self-in-Message c =
       apart = c.self.invariant.apart;
       valid = c.self.invariant.valid;
       gone = subst (RisesUpTo 1 n) (sym more) (rises_more 1 top n gone (omega (arith, above)) above c.self.invariant.gone);
+      form = c.self.invariant.form;
     }

@@ -1,5 +1,5 @@
 -- One more plan, of a part that had none.
-use Rattle.std.proofs.Common.{◌≡◌, ◌∙◌, ℕ, List, [], ◌∷◌, ◌++◌, None, sym, ap, subst}
+use Rattle.std.proofs.Common.{◌≡◌, ◌∙◌, List, [], ◌∷◌, ◌++◌, None, sym, ap, subst}
 use Rattle.root_change.specs.Rewriting.{AreApart, IsPlan, Plan, plan_of}
 use Rattle.root_change.proofs.PlanParts.{apart_more}
 use Rattle.store_planning.specs.Planning.{AreValid, Planning}
@@ -18,4 +18,5 @@ invariant_of-self-2 c =
       apart = subst AreApart (sym all) (apart_more plans plan c.self.invariant.apart none);
       valid = subst AreValid (sym all) (each_plan IsPlan plans plan c.self.invariant.valid c.requires.valid);
       gone = c.self.invariant.gone;
+      form = c.self.invariant.form;
     }

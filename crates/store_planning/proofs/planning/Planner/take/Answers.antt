@@ -1,7 +1,8 @@
 -- An entry is taken: it was left out, or is kept.
 use Rattle.std.proofs.Common.{◌≡◌, ◌∙◌, Err, sym, subst, true, false}
-use Rattle.std.specs.Str.{bytes_eq}
+use Rattle.arch_base.specs.Ids.{id_eq}
 use Rattle.epoch_file.specs.declared.refusal.StoreRefusal.{StoreRefusal}
+use Rattle.store_finding.proofs.SameIds.{same_ids}
 use Rattle.store_planning.specs.DamagedTexts.{DamageBy, IsDamageOf}
 use Rattle.store_planning.specs.Planning.{PlansNext}
 use Rattle.store_planning.proofs.Losing.{kept_changes, left_changes}
@@ -11,12 +12,12 @@ use Rattle.store_planning.proofs.planning.Planner.take.Goals as goal
 
 pub returns-then-eq-clause-taken : goal.returns-then-eq-clause-taken
 returns-then-eq-clause-taken g c =
-    let test : bytes_eq c.args.blob.now.0 c.args.entry.now.seen.blob.0 ≡ true = sym c.eq.ensures ∙ c.if-eq.true in
+    let test : id_eq c.args.blob.now c.args.entry.now.seen.blob ≡ true = sym (same_ids c.args.blob.now c.args.entry.now.seen.blob) ∙ (sym c.eq.ensures ∙ c.if-eq.true) in
     take_left c.args.self.now c.args.file c.args.entry.now c.args.blob.now (g.D.Disk.content c.args.disk.now) c.open.new.self c.leave_out.new.self c.in_ok-plan.plan c.in_ok-plan.ensures.opened test c.in_ok-leave_out.ensures
 
 pub returns-then-eq-clause-kept : goal.returns-then-eq-clause-kept
 returns-then-eq-clause-kept g c =
-    let test : bytes_eq c.args.blob.now.0 c.args.entry.now.seen.blob.0 ≡ true = sym c.eq.ensures ∙ c.if-eq.true in
+    let test : id_eq c.args.blob.now c.args.entry.now.seen.blob ≡ true = sym (same_ids c.args.blob.now c.args.entry.now.seen.blob) ∙ (sym c.eq.ensures ∙ c.if-eq.true) in
     left_but c.args.self.now c.args.file c.args.entry.now c.args.blob.now c.open.new.self c.leave_out.new.self c.in_ok-plan.plan c.in_ok-plan.ensures.opened test c.in_ok-leave_out.ensures
 
 pub returns-then-eq-clause-plans : goal.returns-then-eq-clause-plans
@@ -25,17 +26,17 @@ returns-then-eq-clause-plans g c = λ root file_is are.
 
 pub returns-then-eq-clause-changes : goal.returns-then-eq-clause-changes
 returns-then-eq-clause-changes g c =
-    let test : bytes_eq c.args.blob.now.0 c.args.entry.now.seen.blob.0 ≡ true = sym c.eq.ensures ∙ c.if-eq.true in
+    let test : id_eq c.args.blob.now c.args.entry.now.seen.blob ≡ true = sym (same_ids c.args.blob.now c.args.entry.now.seen.blob) ∙ (sym c.eq.ensures ∙ c.if-eq.true) in
     left_changes c.args.self.now c.args.file c.args.entry.now c.args.blob.now c.open.new.self c.leave_out.new.self c.in_ok-plan.plan c.in_ok-plan.ensures.opened test c.in_ok-leave_out.ensures
 
 pub returns-in-Ok-clause-taken : goal.returns-in-Ok-clause-taken
 returns-in-Ok-clause-taken g c =
-    let test : bytes_eq c.args.blob.now.0 c.args.entry.now.seen.blob.0 ≡ false = sym c.eq.ensures ∙ c.if-eq.false in
+    let test : id_eq c.args.blob.now c.args.entry.now.seen.blob ≡ false = sym (same_ids c.args.blob.now c.args.entry.now.seen.blob) ∙ (sym c.eq.ensures ∙ c.if-eq.false) in
     take_kept c.args.self.now c.args.file c.args.entry.now c.args.blob.now (g.D.Disk.content c.args.disk.now) c.open.new.self c.keep.new.self c.in_ok-plan.plan c.in_ok-plan.ensures.opened test c.in-Ok.ensures.kept
 
 pub returns-in-Ok-clause-kept : goal.returns-in-Ok-clause-kept
 returns-in-Ok-clause-kept g c =
-    let test : bytes_eq c.args.blob.now.0 c.args.entry.now.seen.blob.0 ≡ false = sym c.eq.ensures ∙ c.if-eq.false in
+    let test : id_eq c.args.blob.now c.args.entry.now.seen.blob ≡ false = sym (same_ids c.args.blob.now c.args.entry.now.seen.blob) ∙ (sym c.eq.ensures ∙ c.if-eq.false) in
     kept_but c.args.self.now c.args.file c.args.entry.now c.args.blob.now (g.D.Disk.content c.args.disk.now) c.open.new.self c.keep.new.self c.in_ok-plan.plan c.in_ok-plan.ensures.opened test c.in-Ok.ensures.kept
 
 pub returns-in-Ok-clause-plans : goal.returns-in-Ok-clause-plans
@@ -44,7 +45,7 @@ returns-in-Ok-clause-plans g c = λ root file_is are.
 
 pub returns-in-Ok-clause-changes : goal.returns-in-Ok-clause-changes
 returns-in-Ok-clause-changes g c =
-    let test : bytes_eq c.args.blob.now.0 c.args.entry.now.seen.blob.0 ≡ false = sym c.eq.ensures ∙ c.if-eq.false in
+    let test : id_eq c.args.blob.now c.args.entry.now.seen.blob ≡ false = sym (same_ids c.args.blob.now c.args.entry.now.seen.blob) ∙ (sym c.eq.ensures ∙ c.if-eq.false) in
     kept_changes c.args.self.now c.args.file c.args.entry.now c.args.blob.now (g.D.Disk.content c.args.disk.now) c.open.new.self c.keep.new.self c.in_ok-plan.plan c.in_ok-plan.ensures.opened test c.in-Ok.ensures.kept
 
 pub returns-in-Err-clause-taken : goal.returns-in-Err-clause-taken
@@ -57,7 +58,7 @@ pub returns-in-Err-clause-damage : goal.returns-in-Err-clause-damage
 returns-in-Err-clause-damage g c =
     let content = g.D.Disk.content c.args.disk.now in
     subst (λ (r : StoreRefusal). DamageBy r (IsDamageOf c.args.file c.args.entry.now content)) (sym c.damaged_in.ensures)
-    (take_damage c.args.self.now c.args.file c.args.entry.now content c.open.new.self c.in_ok-plan.plan c.in-Err.refusal c.in_ok-plan.ensures.opened c.in-Err.ensures.damage)
+    (take_damage c.args.self.now c.args.file c.args.entry.now content c.open.new.self c.in_ok-plan.plan c.in-Err.refusal c.in_ok-plan.ensures.opened c.in_ok-plan.ensures.form c.in-Err.ensures.damage)
 
 pub returns-then-eq-clause-lies : goal.returns-then-eq-clause-lies
 returns-then-eq-clause-lies g c = left_on c.args.self.now c.args.file c.args.entry.now c.open.new.self c.leave_out.new.self c.in_ok-plan.plan c.in_ok-plan.ensures.opened c.in_ok-leave_out.ensures
