@@ -1,5 +1,5 @@
 -- What carrying out plans promises, by how it ends.
-use Rattle.std.specs.Prelude.{◌≡◌, ℕ, ◌-◌, List, Option, Some, None, Result, Ok, Err, refl}
+use Rattle.std.specs.Prelude.{◌≡◌, ℕ, ◌-◌, ◌<◌, List, Option, Some, None, Result, Ok, Err, refl}
 use Rattle.std.specs.Result.{IsErrAnd}
 use Rattle.std.proofs.Common.{◌∙◌, sym, ap, subst, inl, inr, arith}
 use Rattle.arch_base.specs.Counts.{Rose, HasCause, RoseIf}
@@ -10,7 +10,9 @@ use Rattle.disk_model.specs.Moments.{LeavesOnly, weaker}
 use Rattle.disk_model.specs.Tells.{told_then}
 use Rattle.root_slots.specs.declared.root.Root.{Root}
 use Rattle.root_slots.specs.RootName.{root_name}
-use Rattle.root_slots.specs.Between.{RunsBetween, joined_between}
+use Rattle.root_slots.specs.OneRoot.{RunsOneRoot}
+use Rattle.root_slots.specs.Spelling.{spelling}
+use Rattle.root_slots.proofs.OneRoots.{joined_one}
 use Rattle.root_slots.specs.Slots.{HasNewRoot, with_root}
 use Rattle.root_slots.specs.Valid.{IsRoot, RootFits}
 use Rattle.root_change.specs.declared.rewriting.RewriteRefusal.{RewriteRefusal}
@@ -23,7 +25,7 @@ use Rattle.root_change.specs.Parts.{RecoversPartsBy}
 use Rattle.root_change.specs.Texts.{Texts, OnDisk}
 use Rattle.root_change.specs.Writing.{WritesPlans}
 use Rattle.root_change.proofs.Changes.{writing_by, changing_by, to_replace, changed}
-use Rattle.root_change.proofs.Phases.{beside_between, beside_went}
+use Rattle.root_change.proofs.Phases.{beside_one, beside_went}
 use Rattle.root_change.proofs.Rewritten.{reading, reads_told, becomes_told, fit_told}
 use Rattle.root_change.proofs.Written.{part_isnt_root, short_handed}
 
@@ -61,7 +63,7 @@ pub not_short : (k : Option Content) → WhereTold (λ (c : Content). ⊥ → �
 not_short None = tt
 not_short (Some k) = λ short. short
 
-module _ {D : Type 0} (g : Disk D) (disk d : D) (old : Root) (free : ℕ) (plans : List Plan) (number : ℕ) where
+module _ {D : Type 0} (g : Disk D) (disk d : D) (old : Root) (free : ℕ) (plans : List Plan) (number : ℕ) (new : Root) (after : IsRootAfter old plans number new) where
   failed_now : (refusal : RewriteRefusal) → ((parts : Parts) → IsOwnOfParts old free parts (g.content disk) → LeavesOnly g disk d (RecoversPlanned old plans number parts)) → RunsBeside g (bounds_of old) disk d → WhereTold (λ (c : Content). IsShort {T = Root} (Err refusal) → ⊥) (g.content disk)
       → IfShort {T = Root} (Err refusal) (IsPlannedPart old plans) → RoseIf (IsFailed {T = Root} (Err refusal)) (g.faults disk) (g.faults d) → CarriesOut g disk d old free plans number (Err refusal)
   failed_now refusal leaves run whole told rose = record {
@@ -75,25 +77,25 @@ module _ {D : Type 0} (g : Disk D) (disk d : D) (old : Root) (free : ℕ) (plans
     sizes = tt;
     cause = rose;
     rooted = tt;
-    crash_between = beside_between g old disk d run;
+    crash_root = (new, after, beside_one g old free (Some (spelling new)) disk d run);
     crash_beside = λ short. run;
   }
 
   -- The plans weren't carried out: what a crash leaves stands for the old parts.
-  pub writing_failed : (new : Root) (result : Result Root RewriteRefusal) (refusal : RewriteRefusal) → IsErrAnd result (λ r. r ≡ refusal) → RunsBeside g (bounds_of old) disk d → WhereTold (λ (c : Content). IsShort {T = Unit {0}} (Err refusal) → ⊥) (g.content disk) → IfShort {T = Unit {0}} (Err refusal) (IsPlannedPart old plans) → RoseIf (IsFailed {T = Unit {0}} (Err refusal)) (g.faults disk) (g.faults d)
+  pub writing_failed : (result : Result Root RewriteRefusal) (refusal : RewriteRefusal) → IsErrAnd result (λ r. r ≡ refusal) → RunsBeside g (bounds_of old) disk d → WhereTold (λ (c : Content). IsShort {T = Unit {0}} (Err refusal) → ⊥) (g.content disk) → IfShort {T = Unit {0}} (Err refusal) (IsPlannedPart old plans) → RoseIf (IsFailed {T = Unit {0}} (Err refusal)) (g.faults disk) (g.faults d)
       → CarriesOut g disk d old free plans number result
-  writing_failed new (Ok made) refusal is run whole told rose = absurd is
-  writing_failed new (Err r) refusal is run whole told rose =
+  writing_failed (Ok made) refusal is run whole told rose = absurd is
+  writing_failed (Err r) refusal is run whole told rose =
       subst (λ (x : RewriteRefusal). CarriesOut g disk d old free plans number (Err x)) (sym is)
       (failed_now refusal
       (λ parts own. weaker g disk d (RecoversPartsBy old parts) (RecoversPlanned old plans number parts) (writing_by free old new parts (rewritten old plans parts) g disk d own run) (λ image stands. inl stands))
       run (whole_as refusal (g.content disk) whole) (short_handed {T = Root} (IsPlannedPart old plans) (IsPlannedPart old plans) (Err refusal) refusal (λ file at part. part) refl told) (rose_as refusal (g.faults disk) (g.faults d) rose))
 
   -- The disk failed while the root was replaced.
-  pub replacing_failed : (result : Result Root RewriteRefusal) → IsErrAnd result (λ r. r ≡ DiskFault) → ((parts : Parts) → IsOwnOfParts old free parts (g.content disk) → LeavesOnly g disk d (RecoversPlanned old plans number parts)) → RoseIf (Unit {0}) (g.faults disk) (g.faults d) → RunsBetween g disk d
+  pub replacing_failed : (result : Result Root RewriteRefusal) → IsErrAnd result (λ r. r ≡ DiskFault) → ((parts : Parts) → IsOwnOfParts old free parts (g.content disk) → LeavesOnly g disk d (RecoversPlanned old plans number parts)) → RoseIf (Unit {0}) (g.faults disk) (g.faults d) → RunsOneRoot g free (Some (spelling new)) disk d
       → CarriesOut g disk d old free plans number result
-  replacing_failed (Ok made) is leaves rose crash_between = absurd is
-  replacing_failed (Err r) is leaves rose crash_between = subst (λ (x : RewriteRefusal). CarriesOut g disk d old free plans number (Err x)) (sym is) (record {
+  replacing_failed (Ok made) is leaves rose run = absurd is
+  replacing_failed (Err r) is leaves rose run = subst (λ (x : RewriteRefusal). CarriesOut g disk d old free plans number (Err x)) (sym is) (record {
     crash = leaves;
     done = λ parts own. tt;
     whole = not_short (g.content disk);
@@ -104,14 +106,14 @@ module _ {D : Type 0} (g : Disk D) (disk d : D) (old : Root) (free : ℕ) (plans
     sizes = tt;
     cause = rose;
     rooted = tt;
-    crash_between = crash_between;
+    crash_root = (new, after, run);
     crash_beside = λ short. absurd short;
   })
 
--- The bytes of the root file between its gates and its bodies, while plans are carried out and the root is replaced.
-pub planned_between : {D : Type 0} (g : Disk D) (old : Root) (disk d1 d2 : D) → RunsBeside g (bounds_of old) disk d1 → RunsBetween g d1 d2 → RunsBetween g disk d2
-planned_between g old disk d1 d2 run replaces =
-    joined_between g disk d1 d2 (beside_between g old disk d1 run) (beside_went old (g.content disk) (g.content d1) run.told) replaces
+-- At most one root comes while plans are carried out and the root is replaced.
+pub planned_root : {D : Type 0} (g : Disk D) (old : Root) (slot : ℕ) (came : Option (List ℕ)) (disk d1 d2 : D) → slot < 2 → RunsBeside g (bounds_of old) disk d1 → RunsOneRoot g slot came d1 d2 → RunsOneRoot g slot came disk d2
+planned_root g old slot came disk d1 d2 low run replaces =
+    joined_one g slot came disk d1 d2 low (beside_one g old slot came disk d1 run) (beside_went old slot came (g.content disk) (g.content d1) run.told) replaces
 
 -- No plan is written to the root file, so it has only the new root then.
 pub planned_rooted : (old new : Root) (plans : List Plan) (free : ℕ) (body : List ℕ) (k m o : Option Content) → MayCarryAll old plans → BothTold (WritesPlans old new plans) k m → BothTold (HasNewRoot free body) m o → BothTold (HasNewRoot free body) k o

@@ -11,7 +11,8 @@ use Rattle.disk_model.specs.Synced.{IsSettled}
 use Rattle.disk_model.specs.Moments.{LeavesOnly, started, goes_on, joined, weaker}
 use Rattle.root_slots.specs.declared.root.Root.{Root}
 use Rattle.root_slots.specs.RootName.{root_name}
-use Rattle.root_slots.specs.Between.{BetweenStays, RunsBetween, WentBetween, joined_between, looks_between, went_committed, went_synced, went_then}
+use Rattle.root_slots.specs.OneRoot.{OneRootStays, RunsOneRoot, WentOneRoot}
+use Rattle.root_slots.proofs.OneRoots.{joined_one, looks_one, one_committed, one_image_of, one_same, one_synced, one_went}
 use Rattle.root_slots.specs.Each.{IfThere, EachRoot}
 use Rattle.root_slots.specs.Slots.{HasRootSize, Current, HasRoot, Ready, OldOrNew, IsOldOrNew, HasNewRoot, IsCommitted, with_root, body_offset, sequence_of}
 use Rattle.root_slots.specs.Spelling.{spelling}
@@ -229,31 +230,31 @@ pub rooted_told : (slot : ℕ) (body : List ℕ) (old new : Root) (k m n p : Opt
 rooted_told slot body old new k m n p synced written committed dropped =
     told_weaker (Replaced slot body old new) (HasNewRoot slot body) k p (λ a b it is was. was.root) (replaced_told slot body old new k m n p synced written committed dropped)
 
--- The bytes between the gates and the bodies, while files other than the root file change.
-pub beside_between : {D : Type 0} (g : Disk D) (root : Root) (old new : D) → RunsBeside g (bounds_of root) old new → RunsBetween g old new
-beside_between g root old new run = weaker g old new (Beside (bounds_of root) (g.content old)) (BetweenStays (g.content old)) run.moments (λ image. stays (g.content old) image) where
-  stays : (k : Option Content) (image : Files) → Beside (bounds_of root) k image → BetweenStays k image
-  stays None image crash_beside = tt
-  stays (Some k) image crash_beside = record { from = image root_name; fits = crash_beside.each root_name; same = refl }
+-- No root comes while files other than the root file change.
+pub beside_one : {D : Type 0} (g : Disk D) (root : Root) (slot : ℕ) (came : Option (List ℕ)) (old new : D) → RunsBeside g (bounds_of root) old new → RunsOneRoot g slot came old new
+beside_one g root slot came old new run = weaker g old new (Beside (bounds_of root) (g.content old)) (OneRootStays slot came (g.content old)) run.moments (λ image. stays (g.content old) image) where
+  stays : (k : Option Content) (image : Files) → Beside (bounds_of root) k image → OneRootStays slot came k image
+  stays None image beside = tt
+  stays (Some k) image beside = one_image_of slot came k (image root_name) (beside.each root_name)
 
-pub beside_went : (root : Root) (k m : Option Content) → BothTold (WentBeside (bounds_of root)) k m → BothTold WentBetween k m
-beside_went root k m went = told_weaker (WentBeside (bounds_of root)) WentBetween k m (λ a b is told one file fits. record { from = file; fits = one.each root_name file fits; same = refl }) went
+pub beside_went : (root : Root) (slot : ℕ) (came : Option (List ℕ)) (k m : Option Content) → BothTold (WentBeside (bounds_of root)) k m → BothTold (WentOneRoot slot came) k m
+beside_went root slot came k m went = told_weaker (WentBeside (bounds_of root)) (WentOneRoot slot came) k m (λ a b is told one file fits. one_same slot came a file (one.each root_name file fits)) went
 
 -- What a crash leaves while a disk is synced.
 pub sync_leaves : {D : Type 0} (g : Disk D) (disk d1 : D) → ((image : Files) → g.left_since disk (g.moment disk) image → Image (g.content disk) image) → Elapses (g.moment disk) (g.moment d1) (g.left_since disk) (g.left_since d1) (g.content d1) → ((image : Files) → Image (g.content d1) image → Image (g.content disk) image)
     → LeavesOnly g disk d1 (Image (g.content disk))
 sync_leaves g disk d1 now time earlier = goes_on g disk disk d1 (Image (g.content disk)) (g.content d1) (started g disk (Image (g.content disk)) now) time earlier
 
--- The same while the root is replaced, call by call.
-module _ {D : Type 0} (g : Disk D) (reads_fit : (d : D) → ReadsFit (g.content d)) (disk d1 d2 : D) (looks : LeavesOnly g disk d1 (Image (g.content disk))) (synced : BothTold Synced (g.content disk) (g.content d1)) (commits : RunsBetween g d1 d2) where
-  pub commit_between : RunsBetween g disk d2
-  commit_between = joined_between g disk d1 d2 (looks_between g disk d1 looks) (went_synced (g.content disk) (g.content d1) (reads_fit disk) synced) commits
+-- At most the new root comes while the root is replaced, call by call.
+module _ {D : Type 0} (g : Disk D) (reads_fit : (d : D) → ReadsFit (g.content d)) (slot : ℕ) (body : List ℕ) (low : slot < 2) (disk d1 d2 : D) (looks : LeavesOnly g disk d1 (Image (g.content disk))) (synced : BothTold Synced (g.content disk) (g.content d1)) (commits : RunsOneRoot g slot (Some body) d1 d2) where
+  pub commit_root : RunsOneRoot g slot (Some body) disk d2
+  commit_root = joined_one g slot (Some body) disk d1 d2 low (looks_one g slot (Some body) disk d1 looks) (one_synced slot (Some body) (g.content disk) (g.content d1) (reads_fit disk) synced) commits
 
-  pub drops_between : (slot : ℕ) (body : List ℕ) (new : Root) (d3 : D) → slot < 2 → WhereTold HasRootSize (g.content disk) → length body ≡ 1536 → BothTold (HasNewRoot slot body) (g.content d1) (g.content d2) → BothTold IsCommitted (g.content d1) (g.content d2) → RunsBeside g (bounds_of new) d2 d3 → RunsBetween g disk d3
-  drops_between slot body new d3 low size whole root committed run =
-      joined_between g disk d2 d3 commit_between
-      (went_then (g.content disk) (g.content d1) (g.content d2) (went_synced (g.content disk) (g.content d1) (reads_fit disk) synced) (went_committed slot body (g.content d1) (g.content d2) low whole (reads_fit d1) size1 root committed))
-      (beside_between g new d2 d3 run) where
+  pub drops_root : (new : Root) (d3 : D) → WhereTold HasRootSize (g.content disk) → length body ≡ 1536 → BothTold (HasNewRoot slot body) (g.content d1) (g.content d2) → BothTold IsCommitted (g.content d1) (g.content d2) → RunsBeside g (bounds_of new) d2 d3 → RunsOneRoot g slot (Some body) disk d3
+  drops_root new d3 size whole root committed run =
+      joined_one g slot (Some body) disk d2 d3 low commit_root
+      (one_went slot (Some body) low (g.content disk) (g.content d1) (g.content d2) (one_synced slot (Some body) (g.content disk) (g.content d1) (reads_fit disk) synced) (one_committed slot body (g.content d1) (g.content d2) low whole (reads_fit d1) size1 root committed))
+      (beside_one g new slot (Some body) d2 d3 run) where
         size1 : WhereTold HasRootSize (g.content d1)
         size1 = told_where Synced HasRootSize HasRootSize (g.content disk) (g.content d1) (λ a b is told one was. ap (λ (f : File). length (bytes_of f)) (one.seen root_name) ∙ was) synced size
 

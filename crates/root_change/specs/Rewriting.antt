@@ -14,7 +14,7 @@ use Rattle.disk_model.specs.Sizes.{epoch_count, record_size}
 use Rattle.disk_model.specs.Synced.{IsSettled}
 use Rattle.root_slots.specs.declared.root.Place.{Place}
 use Rattle.root_slots.specs.declared.root.Root.{Root}
-use Rattle.root_slots.specs.Between.{RunsBetween}
+use Rattle.root_slots.specs.OneRoot.{RunsOneRoot}
 use Rattle.root_slots.specs.Slots.{HasNewRoot}
 use Rattle.root_slots.specs.Spelling.{spelling}
 use Rattle.root_slots.specs.Valid.{IsRoot, no_place}
@@ -294,6 +294,8 @@ pub record CarriesOut {D : Type 0} (g : Disk D) (old new : D) (root : Root) (fre
   -- The root file has that root in the slot, whose gate is open, and is otherwise as it was.
   pub rooted : IfOk result (λ made. BothTold (HasNewRoot free (spelling made)) (g.content old)
       (g.content new))
-  -- At each moment its bytes between the gates and the bodies are as before.
-  pub crash_between : RunsBetween g old new
+  -- At each moment, also after a fault, at most that slot is written, and no root comes into it but the
+  -- one after the plans.
+  pub crash_root : (made : Root) × IsRootAfter root plans number made
+      × RunsOneRoot g free (Some (spelling made)) old new
   pub crash_beside : IsShort result → RunsBeside g (bounds_of root) old new

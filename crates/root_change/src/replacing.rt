@@ -1,12 +1,12 @@
 //! Replaces the current root, and removes the files that only the old one names.
 //! Writes the disk; syncs.
-ghost use Rattle.std.specs.Prelude.{◌≡◌, ◌-◌, ◌<◌, OnOk};
+ghost use Rattle.std.specs.Prelude.{◌≡◌, ◌-◌, ◌<◌, OnOk, Some};
 ghost use Rattle.arch_base.specs.Counts.{HasCause};
 ghost use Rattle.disk_model.specs.Disk.{BothTold, WhereTold};
 ghost use Rattle.disk_model.specs.Moments.{LeavesOnly};
 ghost use Rattle.disk_model.specs.Sizes.{epoch_count};
 ghost use Rattle.disk_model.specs.Synced.{IsSettled};
-ghost use Rattle.root_slots.specs.Between.{RunsBetween};
+ghost use Rattle.root_slots.specs.OneRoot.{RunsOneRoot};
 ghost use Rattle.root_slots.specs.Slots.{slot_number, HasNewRoot, HasRootSize};
 ghost use Rattle.root_slots.specs.Spelling.{spelling};
 ghost use Rattle.root_slots.specs.Valid.{IsRoot};
@@ -114,8 +114,8 @@ pub fn replace_root<D: Disk>(
     // The root file has the new root in the slot, whose gate is open, and is otherwise as it was.
     ensures rooted { OnOk result (BothTold (HasNewRoot (slot_number slot) (spelling new.now))
         (D.content disk.old) (D.content disk.new)) }
-    // At each moment its bytes between the gates and the bodies are as before.
-    ensures crash_between { RunsBetween D.Disk disk.old disk.new }
+    // At each moment, also after a fault, at most that slot is written, and no other root comes into it.
+    ensures crash_root { RunsOneRoot D.Disk (slot_number slot) (Some (spelling new.now)) disk.old disk.new }
     ensures cause { HasCause (D.faults disk.old) (D.faults disk.new) result }
     ensures count { D.reads disk.new ≡ D.reads disk.old }
 {

@@ -6,12 +6,13 @@ use Rattle.disk_model.specs.Synced.{WritingLeaves, IsWritten}
 use Rattle.disk_model.specs.Tells.{told_then, told_weaker}
 use Rattle.root_slots.specs.declared.root.Root.{Root}
 use Rattle.root_slots.specs.RootName.{root_name}
-use Rattle.root_slots.specs.Between.{BetweenStays, crash_between}
+use Rattle.root_slots.specs.OneRoot.{HasOneRoot, OneRootStays}
 use Rattle.root_slots.specs.Each.{IfThere, EachRoot, settled_file}
 use Rattle.root_slots.specs.Spelling.{spelling}
 use Rattle.root_slots.specs.Sizes.{sequence-spelling}
 use Rattle.root_slots.specs.Slots.{HasRootSize, body_offset, sequence_of, HasRoot, Ready, IsOldOrNew, OthersStayInImage, HasNewRoot, IsCommitted, with_root, shut_in, AreBoth, IsInCommit}
-use Rattle.root_slots.proofs.Phases.{shut_between, old_or_new, between_commit}
+use Rattle.root_slots.proofs.Phases.{shut_between, old_or_new}
+use Rattle.root_slots.proofs.OneRoots.{both_weaker, in_commit}
 use Rattle.root_slots.proofs.Torn.{Comes, comes_writing, comes_written, size_stays}
 
 -- The sequence that a root is spelled with is that of the root.
@@ -66,15 +67,10 @@ module _ (slot : ℕ) (body : List ℕ) (low : slot < 2) where
     both (Some a) None ready by = absurd by
     both (Some a) (Some b) ready by = old_or_new slot old body low newer a b ready by
 
-  -- The bytes between the gates and the bodies stay.
-  pub to_between : (k : Option Content) (image : Files) → Comes (IsInCommit slot body) k image → BetweenStays k image
-  to_between None image comes = tt
-  to_between (Some k) image comes = record { from = comes.file; fits = comes.fits; same = both comes.file (image root_name) comes.by } where
-    both : (file after : File) → AreBoth (IsInCommit slot body) file after → crash_between (bytes_of after) ≡ crash_between (bytes_of file)
-    both None None by = refl
-    both None (Some b) by = absurd by
-    both (Some a) None by = absurd by
-    both (Some a) (Some b) by = between_commit slot body a b low by
+  -- At most one new root comes.
+  pub to_one_root : (k : Option Content) (image : Files) → Comes (IsInCommit slot body) k image → OneRootStays slot (Some body) k image
+  to_one_root None image comes = tt
+  to_one_root (Some k) image comes = record { from = comes.file; fits = comes.fits; by = both_weaker (IsInCommit slot body) (HasOneRoot slot (Some body)) (λ a b. in_commit slot body a b low) comes.file (image root_name) comes.by }
 
   -- What holds after the commit of each root file that is ready for it.
   pub each_new : (P Q : List ℕ → Type 0) (k m : Option Content) → ReadsFit k → ((a : List ℕ) → P a → Q (with_root slot body a)) → EachRoot P k → BothTold (HasNewRoot slot body) k m → BothTold IsCommitted k m → EachRoot Q m

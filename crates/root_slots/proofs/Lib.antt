@@ -5,4 +5,5 @@ mod Starting
 mod Zeros
 mod Reading
 pub mod Bodies
+pub mod OneRoots
 mod Apart

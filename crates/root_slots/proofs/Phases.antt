@@ -5,7 +5,6 @@ use Rattle.std.proofs.lemmas.Bool.{cases_eq, cases_lt}
 use Rattle.std.proofs.lemmas.Grind.{common_steps}
 use Rattle.disk_model.specs.Disk.{overlay}
 use Rattle.disk_model.specs.Laws.{SameOutside, in_or_out, overlay-torn, overlay-size, overlay-inside, overlay_kept}
-use Rattle.root_slots.specs.Between.{crash_between, between_torn, between_overlay}
 use Rattle.root_slots.specs.Each.{part_stays}
 use Rattle.root_slots.specs.Slots.{gate, body_offset, body_at, sequence_of, Precedes, Current, HasRoot, Ready, with_root, shut_in, IsInCommit}
 
@@ -184,18 +183,3 @@ module _ (slot : ℕ) (old body : List ℕ) (low : slot < 2) (newer : sequence_o
         other = inl (overlay_kept slot (1 ∷ []) (overlay (body_offset slot) body a) (1 - slot) (omega (arith, long, size, low)) (gates_apart slot low)
             ∙ (overlay_kept (body_offset slot) body a (1 - slot) (omega (arith, size, low)) (inl (omega arith)) ∙ ready.current.opened));
       }
-
--- At each moment of a commit the bytes between the gates and the bodies are as before.
-pub between_commit : (slot : ℕ) (body a b : List ℕ) → slot < 2 → IsInCommit slot body a b → crash_between b ≡ crash_between a
-between_commit slot body a b low (inl first) = between_torn slot 1 a b (inr (omega arith)) first
-between_commit slot body a b low (inr (inl second)) =
-    let size = second.0 in
-    between_torn (body_offset slot) 1536 (shut_in slot a) b (inl (omega arith)) second.1
-    ∙ between_overlay slot (0 ∷ []) a (inr (omega arith)) (omega (arith, size, low))
-between_commit slot body a b low (inr (inr third)) =
-    let size = third.0 in
-    let whole = third.1 in
-    let long = overlay-size slot (0 ∷ []) a (omega (arith, size, low)) in
-    between_torn slot 1 (overlay (body_offset slot) body (shut_in slot a)) b (inr (omega arith)) third.2
-    ∙ (between_overlay (body_offset slot) body (shut_in slot a) (inl (omega arith)) (omega (arith, long, size, whole, low))
-    ∙ between_overlay slot (0 ∷ []) a (inr (omega arith)) (omega (arith, size, low)))

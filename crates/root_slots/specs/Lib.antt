@@ -4,5 +4,6 @@ pub mod Valid
 pub mod Each
 pub mod Slots
 pub mod Between
+pub mod OneRoot
 pub mod Laws
 pub mod Sizes

@@ -1,12 +1,12 @@
 //! The two slots, and the commit of a new root.
 //! Writes the disk; syncs.
-ghost use Rattle.std.specs.Prelude.{◌≡◌, ◌-◌, ◌<◌, ◌∷◌, [], ℕ, List, length, OnOk, IfOk};
+ghost use Rattle.std.specs.Prelude.{◌≡◌, ◌-◌, ◌<◌, ◌∷◌, [], ℕ, List, Some, length, OnOk, IfOk};
 ghost use Rattle.arch_base.specs.Counts.{HasCause};
 ghost use Rattle.disk_model.specs.Disk.{Image, BothTold, WhereTold, Unchanged};
 ghost use Rattle.disk_model.specs.Moments.{LeavesOnly};
 ghost use Rattle.disk_model.specs.Synced.{WritingLeaves, IsWritten};
 ghost use Rattle.root_slots.specs.RootName.{root_name};
-ghost use Rattle.root_slots.specs.Between.{RunsBetween};
+ghost use Rattle.root_slots.specs.OneRoot.{RunsOneRoot};
 ghost use Rattle.root_slots.specs.Each.{EachRoot};
 ghost use Rattle.root_slots.specs.Spelling.{body_size, spelling};
 ghost use Rattle.root_slots.specs.Valid.{IsRoot};
@@ -134,8 +134,9 @@ pub fn commit<D: Disk>(disk: &mut D, slot: Slot, root: &Root) -> Result<(), Disk
         (D.content disk.old) (D.content disk.new)) }
     ensures whole { OnOk result (length (spelling root.now) ≡ body_size) }
     ensures committed { OnOk result (BothTold IsCommitted (D.content disk.old) (D.content disk.new)) }
-    // At each moment the bytes between the gates and the bodies are as before.
-    ensures crash_between { RunsBetween D.Disk disk.old disk.new }
+    // At each moment, also after a fault, at most this slot of the root file is written, and no other
+    // root comes into it. All other bytes of that file are as before.
+    ensures crash_root { RunsOneRoot D.Disk (slot_number slot) (Some (spelling root.now)) disk.old disk.new }
     ensures cause { HasCause (D.faults disk.old) (D.faults disk.new) result }
     ensures count { D.reads disk.new ≡ D.reads disk.old }
 {

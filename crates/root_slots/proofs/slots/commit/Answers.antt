@@ -5,7 +5,7 @@ use Rattle.disk_model.specs.Moments.{weaker}
 use Rattle.root_slots.specs.Spelling.{spelling}
 use Rattle.root_slots.specs.Slots.{slot_number, slot_below}
 use Rattle.root_slots.proofs.Phases.{new_current, other_ready}
-use Rattle.root_slots.proofs.Commits.{newer_root, to_old_or_new, to_between, to_others, each_new}
+use Rattle.root_slots.proofs.Commits.{newer_root, to_old_or_new, to_one_root, to_others, each_new}
 use Rattle.root_slots.proofs.slots.commit.Goals as goal
 
 pub returns-clause-crash : goal.returns-clause-crash
@@ -37,10 +37,10 @@ pub returns-clause-elsewhere : goal.returns-clause-elsewhere
 returns-clause-elsewhere g c =
     weaker g.D.Disk c.args.disk.now c.write_slot.new.disk _ _ c.write_slot.ensures.crash (λ image. to_others _ _ image)
 
-pub returns-clause-crash_between : goal.returns-clause-crash_between
-returns-clause-crash_between g c =
+pub returns-clause-crash_root : goal.returns-clause-crash_root
+returns-clause-crash_root g c =
     weaker g.D.Disk c.args.disk.now c.write_slot.new.disk _ _ c.write_slot.ensures.crash
-    (λ image. to_between (slot_number c.args.slot) (spelling c.args.root.now) (slot_below c.args.slot) _ image)
+    (λ image. to_one_root (slot_number c.args.slot) (spelling c.args.root.now) (slot_below c.args.slot) _ image)
 
 pub returns-clause-written : goal.returns-clause-written
 returns-clause-written g c = on_ok_weaker c.write_slot.result (λ written. written.0) c.write_slot.ensures.written
