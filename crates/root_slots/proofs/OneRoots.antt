@@ -10,7 +10,7 @@ use Rattle.disk_model.specs.Laws.{SameOutside, MaySurvive-exact, MaySurvive-With
 use Rattle.disk_model.specs.Moments.{LeavesOnly, joined, weaker}
 use Rattle.disk_model.specs.Synced.{IsSettled}
 use Rattle.disk_model.specs.Tells.{told_then, told_weaker}
-use Rattle.root_slots.specs.Between.{BetweenStays, RunsBetween, crash_between}
+use Rattle.root_slots.specs.Between.{BetweenStays, RunsBetween, WentBetween, crash_between}
 use Rattle.root_slots.specs.RootName.{root_name}
 use Rattle.root_slots.specs.Each.{settled_file}
 use Rattle.root_slots.specs.OneRoot.{StaysOutside, IsBodyOf, HasOneRoot, HasOneBody, ComesFrom, OneRootStays, WentOneRoot, RunsOneRoot, BeginsOne, BeginsNone}
@@ -221,6 +221,14 @@ pub one_between : (slot : ℕ) (came : Option (List ℕ)) (k : Option Content) (
 one_between slot came None image low stays = tt
 one_between slot came (Some k) image low stays = record { from = stays.from; fits = stays.fits; same = both stays.from (image root_name) stays.by } where
   both : (file after : File) → AreBoth (HasOneRoot slot came) file after → crash_between (bytes_of after) ≡ crash_between (bytes_of file)
+  both None None by = refl
+  both None (Some b) by = absurd by
+  both (Some a) None by = absurd by
+  both (Some a) (Some b) by = outside_between slot a b low by.outside
+
+pub went_between : (slot : ℕ) (came : Option (List ℕ)) (k m : Option Content) → slot < 2 → BothTold (WentOneRoot slot came) k m → BothTold WentBetween k m
+went_between slot came k m low went = told_weaker (WentOneRoot slot came) WentBetween k m (λ a b is told one file fits. (let comes = one file fits in record { from = comes.from; fits = comes.fits; same = both comes.from file comes.by })) went where
+  both : (file after : File) → AreBoth (HasOneBody slot came) file after → crash_between (bytes_of after) ≡ crash_between (bytes_of file)
   both None None by = refl
   both None (Some b) by = absurd by
   both (Some a) None by = absurd by
