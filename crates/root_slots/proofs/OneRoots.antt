@@ -13,7 +13,7 @@ use Rattle.disk_model.specs.Tells.{told_then, told_weaker}
 use Rattle.root_slots.specs.Between.{BetweenStays, RunsBetween, WentBetween, crash_between}
 use Rattle.root_slots.specs.RootName.{root_name}
 use Rattle.root_slots.specs.Each.{settled_file}
-use Rattle.root_slots.specs.OneRoot.{StaysOutside, IsBodyOf, HasOneRoot, HasOneBody, ComesFrom, OneRootStays, WentOneRoot, RunsOneRoot, BeginsOne, BeginsNone}
+use Rattle.root_slots.specs.OneRoot.{StaysOutside, IsBodyOf, HasOneRoot, HasOneBody, ComesFrom, OneRootStays, WentOneRoot, RunsOneRoot, BeginsOneRoot, BeginsNoRoot}
 use Rattle.root_slots.specs.Slots.{AreBoth, HasNewRoot, HasRootSize, IsCommitted, IsInCommit, body_at, body_offset, gate, shut_in, with_root}
 use Rattle.root_slots.proofs.Phases.{overlay-byte, body_stays, body_written}
 
@@ -261,12 +261,12 @@ module _ {D : Type 0} (g : Disk D) where
   pub runs_between : (slot : ℕ) (came : Option (List ℕ)) (old new : D) → slot < 2 → RunsOneRoot g slot came old new → RunsBetween g old new
   runs_between slot came old new low run = weaker g old new (OneRootStays slot came (g.content old)) (BetweenStays (g.content old)) run (λ image. one_between slot came (g.content old) image low)
 
-  pub begins_between : (old new : D) → BeginsOne g old new → RunsBetween g old new
+  pub begins_between : (old new : D) → BeginsOneRoot g old new → RunsBetween g old new
   begins_between old new one = runs_between one.slot one.came old new one.in_range one.crash
 
   -- A run that begins no root.
-  pub none_begins : (old new : D) → BeginsNone g old new → BeginsOne g old new
+  pub none_begins : (old new : D) → BeginsNoRoot g old new → BeginsOneRoot g old new
   none_begins old new none = record { slot = none.slot; in_range = none.in_range; came = None; crash = none.crash }
 
-  pub looks_none : (old new : D) → LeavesOnly g old new (Image (g.content old)) → BeginsNone g old new
+  pub looks_none : (old new : D) → LeavesOnly g old new (Image (g.content old)) → BeginsNoRoot g old new
   looks_none old new looks = record { slot = 0; in_range = omega arith; crash = looks_one 0 None old new looks }

@@ -53,19 +53,19 @@ abbrev pub RunsOneRoot : {D : Type 0} → Disk D → ℕ → Option (List ℕ) �
 RunsOneRoot g slot came old new = LeavesOnly g old new (OneRootStays slot came (g.content old))
 
 -- A run begins at most one root, in this slot.
-abbrev pub BeginsIn : {D : Type 0} → Disk D → ℕ → D → D → Type 0
-BeginsIn g slot old new = (came : Option (List ℕ)) × RunsOneRoot g slot came old new
+abbrev pub BeginsRootIn : {D : Type 0} → Disk D → ℕ → D → D → Type 0
+BeginsRootIn g slot old new = (came : Option (List ℕ)) × RunsOneRoot g slot came old new
 
 -- A run begins at most one root: at each of its moments, also after a fault, all bytes of the root file
 -- are as before but those of one slot, into which at most one new root comes, the same at each moment.
-pub record BeginsOne {D : Type 0} (g : Disk D) (old new : D) : Type 0 where
+pub record BeginsOneRoot {D : Type 0} (g : Disk D) (old new : D) : Type 0 where
   pub slot : ℕ
   pub in_range : slot < 2
   pub came : Option (List ℕ)
   pub crash : RunsOneRoot g slot came old new
 
 -- A run begins no root. A slot whose gate is shut may have been written, and stays shut.
-pub record BeginsNone {D : Type 0} (g : Disk D) (old new : D) : Type 0 where
+pub record BeginsNoRoot {D : Type 0} (g : Disk D) (old new : D) : Type 0 where
   pub slot : ℕ
   pub in_range : slot < 2
   pub crash : RunsOneRoot g slot None old new
