@@ -1,13 +1,13 @@
 -- A purge and an edit: what is planned, and then carried out.
 use Rattle.std.specs.Prelude.{◌≡◌, ◌≢◌, ◌+◌, ◌≤◌, ◌==◌, ◌||◌, nat_lt, not, ℕ, zero, suc, Bool, true, false, if◌then◌else◌, List, [], ◌∷◌, length, Option, Some, None, Result, Ok, Err, OnOk, refl}
 use Rattle.std.specs.List.{AllZip}
-use Rattle.std.specs.Str.{bytes_eq}
 use Rattle.std.proofs.Common.{◌∙◌, sym, ap, subst, arith}
 use Rattle.std.proofs.lemmas.Bool.Decides.{nat_tests}
 use Rattle.std.proofs.lemmas.Option.{same_Some}
 use Rattle.std.proofs.lemmas.Result.{on_ok_weaker}
 use Rattle.arch_base.specs.declared.ids.ObjectId.{ObjectId}
 use Rattle.arch_base.specs.Moments.{last_moment}
+use Rattle.arch_base.specs.Ids.{id_eq}
 use Rattle.disk_model.specs.declared.disk.Disk.{Ghosts as Disk}
 use Rattle.disk_model.specs.Disk.{Content, Kept, BothTold, Unchanged, WhereTold, bytes_of}
 use Rattle.disk_model.specs.Tells.{told_then}
@@ -92,15 +92,15 @@ low_step true e ws (f ∷ fs) low rest all = at where
   at zero g here = (let same = ap (λ (s : StoredEntry). s.epoch) (same_Some f g here) in let kept = all.0.epoch in omega (arith, same, kept, low))
   at (suc i) g here = rest fs all.1 i g here
 
-pub kept_low : (es fs : List StoredEntry) (blob : List ℕ) → InEpochs es → AllZip KeptOf (without_blob es blob) fs → InEpochs fs
+pub kept_low : (es fs : List StoredEntry) (blob : ObjectId) → InEpochs es → AllZip KeptOf (without_blob es blob) fs → InEpochs fs
 kept_low [] [] blob low all = low
 kept_low [] (f ∷ fs) blob low all = absurd all
-kept_low (e ∷ es) fs blob low all = low_step (not (bytes_eq blob e.seen.blob.0)) e (without_blob es blob) fs (first_low e es low) (λ gs more. kept_low es gs blob (rest_low e es low) more) all
+kept_low (e ∷ es) fs blob low all = low_step (not (id_eq blob e.seen.blob)) e (without_blob es blob) fs (first_low e es low) (λ gs more. kept_low es gs blob (rest_low e es low) more) all
 
 -- What is kept after a purge.
 pub purge_drops : (v new : StoreState) (blob : ObjectId) (p : Planning) → PlansPurge v blob p.entries p.plans → KeepsPlanned v p v.root.next new → DropsEntries v new blob
 purge_drops v new blob p plans kept = record {
-  entries = subst (AllZip KeptOf (without_blob v.entries blob.0)) (sym kept.entries) plans.kept;
+  entries = subst (AllZip KeptOf (without_blob v.entries blob)) (sym kept.entries) plans.kept;
   next = kept.root.next;
   config = kept.root.config;
 }

@@ -46,4 +46,4 @@ edit_keeps v new blob text moment p q purge edit kept = record {
 
 -- Its entries are in epochs.
 pub edit_low : (v : StoreState) (blob : ObjectId) (text : List ℕ) (moment : ℕ) (p q : Planning) → InEpochs v.entries → PlansPurge v blob p.entries p.plans → PlansEdit v p text moment q → InEpochs q.entries
-edit_low v blob text moment p q low purge edit = subst InEpochs (sym edit.entries) (in_epochs_more p.entries edit.entry (kept_low v.entries p.entries blob.0 low purge.kept) edit.small)
+edit_low v blob text moment p q low purge edit = subst InEpochs (sym edit.entries) (in_epochs_more p.entries edit.entry (kept_low v.entries p.entries blob low purge.kept) edit.small)

@@ -4,6 +4,7 @@ use Rattle.std.proofs.Common.{◌∙◌, sym, ap, subst, inl, inr, arith, length
 use Rattle.std.proofs.lemmas.Bool.{cases_lt}
 use Rattle.std.proofs.lemmas.List.{nil_from_length}
 use Rattle.arch_base.specs.declared.ids.ObjectId.{ObjectId}
+use Rattle.arch_base.specs.declared.ids.Form.{Form}
 use Rattle.arch_base.specs.declared.ids.Form.TheVariants as form
 use Rattle.disk_model.specs.declared.disk.Disk.{Ghosts as Disk}
 use Rattle.disk_model.specs.declared.name.FileKind.{FileKind}
@@ -58,19 +59,19 @@ nothing_told to end_ None inside = tt
 nothing_told to end_ (Some k) inside = none_added to end_ k inside
 
 -- An entry has some bytes.
-pub some_bytes : (parent : Option ObjectId) (e : EpochEntry) → 0 < length (bytes_after parent e)
-unfolding (entry_bytes form.Sha1)
-some_bytes parent e = omega arith
+pub some_bytes : (of : Form) (parent : Option ObjectId) (e : EpochEntry) → 0 < length (bytes_after of parent e)
+unfolding entry_bytes
+some_bytes of parent e = omega arith
 
 -- So has what is appended for it.
 pub appended_some : (at : ℕ) (e : NewEntry) → 0 < length (appended at e)
-appended_some at e = (let some = some_bytes e.parent (entry_of e) in omega (arith, some, length-append (front_at at) (bytes_after e.parent (entry_of e))))
+appended_some at e = (let some = some_bytes e.form e.parent (entry_of e) in omega (arith, some, length-append (front_at e.form at) (bytes_after e.form e.parent (entry_of e))))
 
 -- The map gets one record for each number that is taken.
-line_size : (root : Root) (p : NextPlace) (e : NewEntry) → length (line_of root p e) ≡ numbers_by e.kind * 28
-line_size root p e = by e.kind where
+line_size : (root : Root) (p : NextPlace) (e : NewEntry) → e.form ≡ form.Sha1 → length (line_of root p e) ≡ numbers_by e.kind * 28
+line_size root p e form_is = ap (λ (g : Form). length (line_by e.kind root.next p.epoch (blob_id_of g e.text.now))) form_is ∙ by e.kind where
   by : (k : EntryKind) → length (line_by k root.next p.epoch (blob_id_of form.Sha1 e.text.now)) ≡ numbers_by k * 28
-  by Message = record_length form.Sha1 (record { number = root.next; epoch = p.epoch; blob = blob_id_of form.Sha1 e.text.now }) (IsObjectId-id_of (blob_spelling e.text.now)).len
+  by Message = record_length form.Sha1 (record { number = root.next; epoch = p.epoch; blob = blob_id_of form.Sha1 e.text.now }) (IsObjectId-id_of form.Sha1 (blob_spelling e.text.now)).len
   by Deletion = refl
 
 -- The map's bytes that count end where its records do.
@@ -140,7 +141,7 @@ module _ (root : Root) (p : NextPlace) (is : p ≡ place_at root p.epoch p.paren
         ap (λ (n : ℕ). (get_or (set root.epochs p.epoch (record { generation = p.generation; length = end_ })) n no_place).generation) at
         ∙ ap (λ (q : Place). q.generation) (set_here root.epochs p.epoch (record { generation = p.generation; length = end_ }) (omega (arith, count, small)))
 
-  module _ (e : NewEntry) (count : length root.epochs ≡ 64) where
+  module _ (e : NewEntry) (form_is : e.form ≡ form.Sha1) (count : length root.epochs ≡ 64) where
     -- The root after a new entry, and the files to which it was appended.
     abbrev new : Root
     new = root_with root p e
@@ -213,7 +214,7 @@ module _ (root : Root) (p : NextPlace) (is : p ≡ place_at root p.epoch p.paren
         | inl same ↦ subst (λ (f : FileName). named_end new f ≤ length (bytes_of (m f).seen)) (sym same) (
             let size = named_some new map map_named in
             let reached = wrote.line.reaches in
-            let more = line_size root p e in
+            let more = line_size root p e form_is in
             omega (arith, size, reached, more)
             )
         | inr not_map ↦
@@ -264,7 +265,7 @@ module _ (root : Root) (p : NextPlace) (is : p ≡ place_at root p.epoch p.paren
       parts_long kind.Cache n = long kind.Cache n
       parts_long kind.Map n = by (n == 0) refl where
         by : (b : Bool) → (n == 0) ≡ b → length (if b then parts kind.Map 0 ++ line_of root p e else parts kind.Map n) ≡ (if b then new.map else no_place).length
-        by true at = (let before : length (parts kind.Map 0) ≡ root.map.length = long kind.Map 0 in let more = line_size root p e in omega (arith, before, more, length-append (parts kind.Map 0) (line_of root p e)))
+        by true at = (let before : length (parts kind.Map 0) ≡ root.map.length = long kind.Map 0 in let more = line_size root p e form_is in omega (arith, before, more, length-append (parts kind.Map 0) (line_of root p e)))
         by false isnt = long kind.Map n ∙ ap (λ (b : Bool). (if b then root.map else no_place).length) isnt
       parts_long kind.Epoch n = elim (equal_or_not n p.epoch) [
         | inl at ↦ subst (λ (m : ℕ). length (next kind.Epoch m) ≡ (place_of new kind.Epoch m).length) (sym at) (

@@ -1,10 +1,10 @@
 -- Which files a purge and an edit keep.
 use Rattle.std.specs.Prelude.{◌≡◌, ◌⊎◌, ◌+◌, ◌<◌, ◌==◌, nat_lt, ℕ, zero, suc, Bool, true, false, ◌&&◌, ◌||◌, if◌then◌else◌, List, [], ◌∷◌, length, get_or, Option, Some, None, is_some, unwrap_or, refl}
-use Rattle.std.specs.Str.{bytes_eq}
 use Rattle.std.proofs.Common.{◌∙◌, sym, ap, subst, inl, inr, arith}
 use Rattle.std.proofs.lemmas.Bool.Decides.{nat_tests}
-use Rattle.std.proofs.lemmas.Slice.Eq.{bytes_eq-Decides}
 use Rattle.arch_base.specs.declared.ids.ObjectId.{ObjectId}
+use Rattle.arch_base.specs.Ids.{id_eq}
+use Rattle.arch_base.proofs.IdOrder.{id_eq-Decides}
 use Rattle.disk_model.specs.declared.name.FileKind.TheVariants as kind
 use Rattle.root_slots.specs.declared.root.Place.{Place}
 use Rattle.root_slots.specs.declared.root.Root.{Root}
@@ -21,16 +21,15 @@ use Rattle.store_planning.specs.Planning.{KeepsPlanned, Planning, PlansEdit, Pla
 use Rattle.epoch_store.specs.Commands.{EditsFiles, EpochFileGrows, HasBlob, IsMadeAnew, KeepsFiles}
 use Rattle.store_finding.specs.Kept.{StoreState}
 use Rattle.epoch_store.proofs.Carrying.{anew_goes}
-use Rattle.epoch_store.proofs.Purged.{id_is}
 
 -- An epoch loses an entry exactly if one of its entries has the blob id.
 abbrev hits : StoredEntry → ObjectId → ℕ → Bool
-hits s blob e = bytes_eq blob.0 s.seen.blob.0 && (s.epoch == e)
+hits s blob e = id_eq blob s.seen.blob && (s.epoch == e)
 
 has_first : (s : StoredEntry) (es : List StoredEntry) (blob : ObjectId) (e : ℕ) → hits s blob e ≡ true → HasBlob (s ∷ es) blob e
 has_first s es blob e is =
-    let tests = both (bytes_eq blob.0 s.seen.blob.0) (s.epoch == e) is in
-    (s, (0, omega arith, refl), is_same s.epoch e tests.1, id_is s.seen.blob blob (sym ((bytes_eq-Decides blob.0 s.seen.blob.0).0 tests.0)))
+    let tests = both (id_eq blob s.seen.blob) (s.epoch == e) is in
+    (s, (0, omega arith, refl), is_same s.epoch e tests.1, sym ((id_eq-Decides blob s.seen.blob).0 tests.0))
 
 has_later : (s : StoredEntry) (es : List StoredEntry) (blob : ObjectId) (e : ℕ) → HasBlob es blob e → HasBlob (s ∷ es) blob e
 has_later s es blob e has =
@@ -47,9 +46,9 @@ or_either true u is = refl
 or_either false u (inl is) = absurd (let wrong : false ≡ true = is in cc)
 or_either false u (inr is) = is
 
-lost_has : (es : List StoredEntry) (blob : ObjectId) (e : ℕ) → loses es blob.0 e ≡ true → HasBlob es blob e
+lost_has : (es : List StoredEntry) (blob : ObjectId) (e : ℕ) → loses es blob e ≡ true → HasBlob es blob e
 lost_has [] blob e is = absurd (let wrong : false ≡ true = is in cc)
-lost_has (s ∷ es) blob e is = elim (or_true (hits s blob e) (loses es blob.0 e) is) [
+lost_has (s ∷ es) blob e is = elim (or_true (hits s blob e) (loses es blob e) is) [
   | inl this ↦ has_first s es blob e this
   | inr later ↦ has_later s es blob e (lost_has es blob e later)
 ]
@@ -57,12 +56,12 @@ lost_has (s ∷ es) blob e is = elim (or_true (hits s blob e) (loses es blob.0 e
 hit_is : (s t : StoredEntry) (blob : ObjectId) (e : ℕ) → s ≡ t → t.epoch ≡ e → t.seen.blob ≡ blob → hits s blob e ≡ true
 hit_is s t blob e same epoch_is blob_is =
     ap (λ (r : StoredEntry). hits r blob e) same
-    ∙ (ap (λ (b : Bool). b && (t.epoch == e)) ((bytes_eq-Decides blob.0 t.seen.blob.0).1 (ap (λ (i : ObjectId). i.0) (sym blob_is))) ∙ same_test t.epoch e epoch_is)
+    ∙ (ap (λ (b : Bool). b && (t.epoch == e)) ((id_eq-Decides blob t.seen.blob).1 (sym blob_is)) ∙ same_test t.epoch e epoch_is)
 
-has_lost : (es : List StoredEntry) (blob : ObjectId) (e : ℕ) (t : StoredEntry) (k : ℕ) → k < length es → get_or es k t ≡ t → t.epoch ≡ e → t.seen.blob ≡ blob → loses es blob.0 e ≡ true
+has_lost : (es : List StoredEntry) (blob : ObjectId) (e : ℕ) (t : StoredEntry) (k : ℕ) → k < length es → get_or es k t ≡ t → t.epoch ≡ e → t.seen.blob ≡ blob → loses es blob e ≡ true
 has_lost [] blob e t k less is epoch_is blob_is = absurd (omega (arith, less))
-has_lost (s ∷ es) blob e t zero less is epoch_is blob_is = or_either (hits s blob e) (loses es blob.0 e) (inl (hit_is s t blob e is epoch_is blob_is))
-has_lost (s ∷ es) blob e t (suc k) less is epoch_is blob_is = or_either (hits s blob e) (loses es blob.0 e) (inr (has_lost es blob e t k (omega (arith, less)) is epoch_is blob_is))
+has_lost (s ∷ es) blob e t zero less is epoch_is blob_is = or_either (hits s blob e) (loses es blob e) (inl (hit_is s t blob e is epoch_is blob_is))
+has_lost (s ∷ es) blob e t (suc k) less is epoch_is blob_is = or_either (hits s blob e) (loses es blob e) (inr (has_lost es blob e t k (omega (arith, less)) is epoch_is blob_is))
 
 -- The plan of an epoch by whether it loses an entry.
 is_none : (o : Option Plan) → is_some o ≡ false → o ≡ None
@@ -75,7 +74,7 @@ the_some (Some p) is = (p, refl)
 
 module _ (v : StoreState) (blob : ObjectId) (p : Planning) (purge : PlansPurge v blob p.entries p.plans) where
   none_planned : (e : ℕ) → (HasBlob v.entries blob e → ⊥) → plan_of p.plans kind.Epoch e ≡ None
-  none_planned e none = elim (true_or_false (loses v.entries blob.0 e)) [
+  none_planned e none = elim (true_or_false (loses v.entries blob e)) [
     | inl is ↦ absurd (none (lost_has v.entries blob e is))
     | inr isnt ↦ is_none (plan_of p.plans kind.Epoch e) (purge.lost e ∙ isnt)
   ]

@@ -6,6 +6,7 @@ use Rattle.disk_model.specs.declared.name.FileKind.{FileKind}
 use Rattle.disk_model.specs.declared.name.FileKind.TheVariants as kind
 use Rattle.arch_base.specs.declared.ids.ObjectId.{ObjectId}
 use Rattle.arch_base.specs.declared.ids.Form.TheVariants as form
+use Rattle.arch_base.specs.Ids.{id_bytes}
 use Rattle.git_objects.proofs.ObjectIds.{IsObjectId-id_of}
 use Rattle.git_objects.specs.Objects.{blob_id_of, blob_spelling}
 use Rattle.git_objects.specs.declared.entry_kind.EntryKind.TheVariants.{Message}
@@ -82,7 +83,7 @@ module _ (root : Root) (cache : List ℕ) (a b : Archive) (old : Planning) (next
   option_more n None more is = ap (λ (w : List ℕ). bytes_in a n ++ w) (written_with_bytes texts (no_plan kind.Epoch n Behind) more (none_valid n))
   option_more n (Some p) more is = some_more kind.Epoch n p more is
 
-  module _ (e : ℕ) (text : List ℕ) (moment : ℕ) (piece line : List ℕ) (piece_is : piece ≡ front_at (length (bytes_in b e)) ++ bytes_after (last_commit None (in_epoch b.entries e)) (record { kind = Message; text = text; moment = moment }))
+  module _ (e : ℕ) (text : List ℕ) (moment : ℕ) (piece line : List ℕ) (piece_is : piece ≡ front_at form.Sha1 (length (bytes_in b e)) ++ bytes_after form.Sha1 (last_commit None (in_epoch b.entries e)) (record { kind = Message; text = text; moment = moment }))
       (line_is : line ≡ record_bytes (record { number = next; epoch = e; blob = blob_id_of form.Sha1 text })) (mp : Plan) (map_is : plan_of old.plans kind.Map 0 ≡ Some mp) where
     abbrev new : Entry
     new = message b.next e text moment
@@ -145,7 +146,7 @@ module _ (root : Root) (cache : List ℕ) (a b : Archive) (old : Planning) (next
 
 -- One more message is planned at the next place.
 module _ (v : StoreState) (old : Planning) (p : NextPlace) (text : List ℕ) (moment : ℕ) (piece : List ℕ) (blob : ObjectId) (stored : StoredEntry) (valid : AreValid old.plans) (place : IsPlaceAfter v.root old p) (small : p.epoch ≤ 63) (long : p.length ≡ length_after v.root old.plans p.epoch) (short : p.length < 2 ^ 62)
-    (piece_is : piece ≡ front_at p.length ++ bytes_after p.parent (record { kind = Message; text = text; moment = moment })) (blob_is : blob ≡ blob_id_of form.Sha1 text)
+    (piece_is : piece ≡ front_at form.Sha1 p.length ++ bytes_after form.Sha1 p.parent (record { kind = Message; text = text; moment = moment })) (blob_is : blob ≡ blob_id_of form.Sha1 text)
     (stored_is : (before : List Entry) → EntriesEndAt before p → stored ≡ stored_at before (record { kind = Message; number = v.root.next; epoch = p.epoch; text = text; moment = moment })) (mp : Plan) (map_is : plan_of (plans_with old.plans p.epoch piece) kind.Map 0 ≡ Some mp) where
   abbrev written : EpochEntry
   written = record { kind = Message; text = text; moment = moment }
@@ -163,7 +164,7 @@ module _ (v : StoreState) (old : Planning) (p : NextPlace) (text : List ℕ) (mo
     room none = subst (λ (n : ℕ). n < 2 ^ 62) (long ∙ ap (length_by (get_or v.root.epochs p.epoch no_place).length) none) short
 
     size : length record_line ≡ 28
-    size = record_length form.Sha1 (record { number = v.root.next; epoch = p.epoch; blob = blob }) (subst (λ (i : ObjectId). length i.0 ≡ 20) (sym blob_is) (IsObjectId-id_of (blob_spelling text)).len)
+    size = record_length form.Sha1 (record { number = v.root.next; epoch = p.epoch; blob = blob }) (subst (λ (i : ObjectId). length (id_bytes i) ≡ 20) (sym blob_is) (IsObjectId-id_of form.Sha1 (blob_spelling text)).len)
 
   -- They write the archive with the message.
   pub message_archive : (cache : List ℕ) (a b : Archive) → PlansArchive v.root cache a b old v.root.next → NamesArchive v.root a → AreAnew old.plans → IsArchive (with_entry b (new_epoch b) text moment) → (gone : List ℕ) (current : Option Planned) (entries : List StoredEntry) → entries ≡ old.entries ++ stored ∷ []
@@ -176,8 +177,8 @@ module _ (v : StoreState) (old : Planning) (p : NextPlace) (text : List ℕ) (mo
         at : (p.epoch ≡ new_epoch b) × (p.length ≡ length (bytes_in b p.epoch)) × (p.parent ≡ last_commit None (in_epoch b.entries p.epoch))
         at = place b made.valid (names.config ∙ sym made.config) made.entries (length_is v.root cache a b old v.root.next made names valid anew)
 
-        here_piece : piece ≡ front_at (length (bytes_in b p.epoch)) ++ bytes_after (last_commit None (in_epoch b.entries p.epoch)) written
-        here_piece = piece_is ∙ (ap (λ (n : ℕ). front_at n ++ bytes_after p.parent written) at.1 ∙ ap (λ (c : Option ObjectId). front_at (length (bytes_in b p.epoch)) ++ bytes_after c written) at.2)
+        here_piece : piece ≡ front_at form.Sha1 (length (bytes_in b p.epoch)) ++ bytes_after form.Sha1 (last_commit None (in_epoch b.entries p.epoch)) written
+        here_piece = piece_is ∙ (ap (λ (n : ℕ). front_at form.Sha1 n ++ bytes_after form.Sha1 p.parent written) at.1 ∙ ap (λ (c : Option ObjectId). front_at form.Sha1 (length (bytes_in b p.epoch)) ++ bytes_after form.Sha1 c written) at.2)
 
         here_entries : entries ≡ old.entries ++ stored_at b.entries (message b.next p.epoch text moment) ∷ []
         here_entries =
@@ -185,16 +186,16 @@ module _ (v : StoreState) (old : Planning) (p : NextPlace) (text : List ℕ) (mo
             ∙ ap (λ (s : StoredEntry). old.entries ++ s ∷ []) (stored_is b.entries (record { length_is = at.1; parent = at.2 }) ∙ ap (λ (n : ℕ). stored_at b.entries (message n p.epoch text moment)) (sym made.next_is))
 
 -- What is written of a message isn't empty.
-piece_some : (at : ℕ) (parent : Option ObjectId) (e : EpochEntry) (piece : List ℕ) → piece ≡ front_at at ++ bytes_after parent e → 0 < length piece
+piece_some : (at : ℕ) (parent : Option ObjectId) (e : EpochEntry) (piece : List ℕ) → piece ≡ front_at form.Sha1 at ++ bytes_after form.Sha1 parent e → 0 < length piece
 piece_some at parent e piece is =
     let size = ap length is in
-    let parts = length-append (front_at at) (bytes_after parent e) in
-    let own = some_bytes parent e in
+    let parts = length-append (front_at form.Sha1 at) (bytes_after form.Sha1 parent e) in
+    let own = some_bytes form.Sha1 parent e in
     omega (arith, size, parts, own)
 
 -- So all of it is planned.
 pub message_planned : (v : StoreState) (old one two : Planning) (p : NextPlace) (text : List ℕ) (moment : ℕ) (piece : List ℕ) (blob : ObjectId) (stored : StoredEntry) → IsPlaceAfter v.root old p → p.epoch ≤ 63 → p.length ≡ length_after v.root old.plans p.epoch → p.length < 2 ^ 62
-    → piece ≡ front_at p.length ++ bytes_after p.parent (record { kind = Message; text = text; moment = moment }) → blob ≡ blob_id_of form.Sha1 text
+    → piece ≡ front_at form.Sha1 p.length ++ bytes_after form.Sha1 p.parent (record { kind = Message; text = text; moment = moment }) → blob ≡ blob_id_of form.Sha1 text
     → ((before : List Entry) → EntriesEndAt before p → stored ≡ stored_at before (record { kind = Message; number = v.root.next; epoch = p.epoch; text = text; moment = moment })) → one ≡ record { plans = plans_with old.plans p.epoch piece; entries = old.entries; gone = old.gone; current = old.current } → AreValid old.plans
     → AppendsRecord one (record { number = v.root.next; epoch = p.epoch; blob = blob }) two → AreValid two.plans → (plans : List Plan) (before : List StoredEntry) (gone : List ℕ) (current : Option Planned) → record { plans = plans; entries = before; gone = gone; current = current } ≡ two
     → (entries : List StoredEntry) → entries ≡ before ++ stored ∷ [] → stored.seen.kind ≡ Message → stored.number ≡ v.root.next → own_id text ≡ Some stored.seen.id → stored.seen.blob ≡ blob_id_of form.Sha1 text → stored.seen.content ≡ content_id_of text → stored.epoch ≡ p.epoch

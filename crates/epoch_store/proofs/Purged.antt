@@ -15,6 +15,8 @@ use Rattle.git_objects.specs.declared.entry_kind.EntryKind.{EntryKind}
 use Rattle.git_objects.specs.declared.entry_kind.EntryKind.TheVariants.{Message, Deletion}
 use Rattle.arch_base.specs.Counts.{RoseIf}
 use Rattle.arch_base.specs.declared.ids.Form.TheVariants as form
+use Rattle.arch_base.specs.Ids.{id_eq}
+use Rattle.arch_base.proofs.IdOrder.{id_eq-Decides}
 use Rattle.root_slots.specs.declared.root.Root.{Root}
 use Rattle.root_slots.specs.Slots.{slot_number}
 use Rattle.root_slots.specs.Valid.{IsRoot}
@@ -127,18 +129,15 @@ test_step true false one two = absurd (let wrong : false ≡ true = one refl in 
 test_step false true one two = absurd (let wrong : false ≡ true = two refl in cc)
 test_step false false one two = refl
 
-pub id_is : (i j : ObjectId) → i.0 ≡ j.0 → i ≡ j
-id_is i j same = ap (λ (l : List ℕ). let id : ObjectId = record { 0 = l } in id) same
-
-picks_one : (blob : ObjectId) (text : List ℕ) (e : Entry) → blob ≡ blob_id_of form.Sha1 text → (blob_id_of form.Sha1 text ≡ blob_id_of form.Sha1 e.text → text ≡ e.text) → bytes_eq blob.0 (blob_id_of form.Sha1 e.text).0 ≡ bytes_eq text e.text
+picks_one : (blob : ObjectId) (text : List ℕ) (e : Entry) → blob ≡ blob_id_of form.Sha1 text → (blob_id_of form.Sha1 text ≡ blob_id_of form.Sha1 e.text → text ≡ e.text) → id_eq blob (blob_id_of form.Sha1 e.text) ≡ bytes_eq text e.text
 picks_one blob text e is agrees =
-    test_step (bytes_eq blob.0 (blob_id_of form.Sha1 e.text).0) (bytes_eq text e.text)
-    (λ hit. (bytes_eq-Decides text e.text).1 (agrees (sym is ∙ id_is blob (blob_id_of form.Sha1 e.text) ((bytes_eq-Decides blob.0 (blob_id_of form.Sha1 e.text).0).0 hit))))
-    (λ hit. (bytes_eq-Decides blob.0 (blob_id_of form.Sha1 e.text).0).1 (ap (λ (i : ObjectId). i.0) is ∙ ap (λ (t : List ℕ). (blob_id_of form.Sha1 t).0) ((bytes_eq-Decides text e.text).0 hit)))
+    test_step (id_eq blob (blob_id_of form.Sha1 e.text)) (bytes_eq text e.text)
+    (λ hit. (bytes_eq-Decides text e.text).1 (agrees (sym is ∙ (id_eq-Decides blob (blob_id_of form.Sha1 e.text)).0 hit)))
+    (λ hit. (id_eq-Decides blob (blob_id_of form.Sha1 e.text)).1 (is ∙ ap (blob_id_of form.Sha1) ((bytes_eq-Decides text e.text).0 hit)))
 
 pub picks_text : (a : Archive) (blob : ObjectId) (text : List ℕ) → BlobsAgree a.entries → HasText text a.entries → blob ≡ blob_id_of form.Sha1 text → PicksText a blob text
 picks_text a blob text agree has is =
-    all_weaker (λ (e : Entry). blob_id_of form.Sha1 text ≡ blob_id_of form.Sha1 e.text → text ≡ e.text) (λ (e : Entry). bytes_eq blob.0 (blob_id_of form.Sha1 e.text).0 ≡ bytes_eq text e.text) a.entries (λ e agrees. picks_one blob text e is agrees) (agrees-has a.entries text agree has)
+    all_weaker (λ (e : Entry). blob_id_of form.Sha1 text ≡ blob_id_of form.Sha1 e.text → text ≡ e.text) (λ (e : Entry). id_eq blob (blob_id_of form.Sha1 e.text) ≡ bytes_eq text e.text) a.entries (λ e agrees. picks_one blob text e is agrees) (agrees-has a.entries text agree has)
 
 -- The text of an entry that is kept with a blob id.
 pub picked : (v : StoreState) (cache : List ℕ) (a : Archive) (k : Content) (blob : ObjectId) → IsDiskWith v cache a k → (e : StoredEntry) × Contains v.entries e × (e.seen.blob ≡ blob) → (text : List ℕ) × PicksText a blob text
@@ -176,12 +175,12 @@ kept_step : (t : Bool) (e : StoredEntry) (front old new : List StoredEntry) → 
 kept_step true e front old new all is = subst (λ (l : List StoredEntry). AllZip KeptOf l new) (sym (append-nil front)) (subst (AllZip KeptOf front) (sym is) all)
 kept_step false e front old new all more = subst (AllZip KeptOf (front ++ e ∷ [])) (sym more.2) (AllZip-push KeptOf front old e more.0 all more.1)
 
-pub kept_more : (es : List StoredEntry) (n : ℕ) (e : StoredEntry) (blob : ObjectId) (old new : List StoredEntry) → slice_get es n ≡ Some e → AllZip KeptOf (without_blob (take n es) blob.0) old → KeepsBut (bytes_eq blob.0 e.seen.blob.0) old e new → AllZip KeptOf (without_blob (take (n + 1) es) blob.0) new
+pub kept_more : (es : List StoredEntry) (n : ℕ) (e : StoredEntry) (blob : ObjectId) (old new : List StoredEntry) → slice_get es n ≡ Some e → AllZip KeptOf (without_blob (take n es) blob) old → KeepsBut (id_eq blob e.seen.blob) old e new → AllZip KeptOf (without_blob (take (n + 1) es) blob) new
 kept_more es n e blob old new here all keeps =
     let count : suc n ≡ n + 1 = omega arith in
-    let parts : without_blob (take (n + 1) es) blob.0 ≡ without_blob (take n es) blob.0 ++ without_blob (e ∷ []) blob.0 =
-    ap (λ (j : ℕ). without_blob (take j es) blob.0) (sym count) ∙ (ap (λ (l : List StoredEntry). without_blob l blob.0) (take_one es n e here) ∙ filter-append (λ (f : StoredEntry). not (bytes_eq blob.0 f.seen.blob.0)) (take n es) (e ∷ [])) in
-    subst (λ (l : List StoredEntry). AllZip KeptOf l new) (sym parts) (kept_step (bytes_eq blob.0 e.seen.blob.0) e (without_blob (take n es) blob.0) old new all keeps)
+    let parts : without_blob (take (n + 1) es) blob ≡ without_blob (take n es) blob ++ without_blob (e ∷ []) blob =
+    ap (λ (j : ℕ). without_blob (take j es) blob) (sym count) ∙ (ap (λ (l : List StoredEntry). without_blob l blob) (take_one es n e here) ∙ filter-append (λ (f : StoredEntry). not (id_eq blob f.seen.blob)) (take n es) (e ∷ [])) in
+    subst (λ (l : List StoredEntry). AllZip KeptOf l new) (sym parts) (kept_step (id_eq blob e.seen.blob) e (without_blob (take n es) blob) old new all keeps)
 
 -- A message with a text is an entry with it.
 any_step : (k : EntryKind) (e : Entry) (es ms : List Entry) (text : List ℕ) → (HasText text ms → HasText text es) → HasText text (if is_message k then e ∷ ms else ms) → HasText text (e ∷ es)
@@ -220,7 +219,7 @@ module _ (v : StoreState) (blob : ObjectId) (p new : Planning) (map : FileName) 
 
 -- What is known once a planner is finished, of a store that was looked into.
 pub record ReadyOf (v : StoreState) (root : Root) (p new : Planning) : Type 0 where
-  pub purge : (blob : ObjectId) → AllZip KeptOf (without_blob v.entries blob.0) p.entries → PlansLost v.entries blob new.plans → PlansPurge v blob new.entries new.plans
+  pub purge : (blob : ObjectId) → AllZip KeptOf (without_blob v.entries blob) p.entries → PlansLost v.entries blob new.plans → PlansPurge v blob new.entries new.plans
   pub own : (blob : ObjectId) (content : Option Content) → WhereTold (PlansFirst v blob (length v.entries) p) content → PlansOwn v blob new.entries new.plans content
 
 pub ready_of : (v : StoreState) (root : Root) (slot : ℕ) (entries : List StoredEntry) (map : FileName) (p new : Planning) → ◌≡◌ {A = StoreState} (record { root = root; slot = slot; entries = entries }) v → IsRoot root → map ≡ map_file_of root → ArePlansIn v.root p → IsTakenToOffset v.root p → FinishesPlans p map (root.next - 1) new
@@ -238,7 +237,7 @@ ready_of v root slot entries map p new view_is valid map_is are taken finishes r
     let from = subst (λ (r : Root). AreFrom r new.plans) root_is so.0 in
     record {
       purge = λ blob kept lost. record {
-        kept = subst (AllZip KeptOf (without_blob v.entries blob.0)) (sym (finish_entries p map (root.next - 1) new finishes)) kept;
+        kept = subst (AllZip KeptOf (without_blob v.entries blob)) (sym (finish_entries p map (root.next - 1) new finishes)) kept;
         ready = subst (λ (r : Root). IsReadyPlan r new.plans r.next) root_is (subst (IsReadyPlan root new.plans) count so.2);
         anew = so.1;
         lost = lost;

@@ -1,6 +1,7 @@
 -- Damage that a purge or an edit tells: of an entry whose text isn't in its place, or of a short file.
 use Rattle.std.specs.Prelude.{◌≡◌, ◌<◌, ℕ, length, drop, slice_get, Option, Some, None, refl}
 use Rattle.std.proofs.Common.{◌∙◌, subst, inl, arith, length-drop, length-take}
+use Rattle.arch_base.specs.declared.ids.Form.TheVariants as form
 use Rattle.disk_model.specs.declared.name.FileName.{FileName}
 use Rattle.disk_model.specs.Disk.{Content, BothTold, Unchanged, WhereTold, bytes_of}
 use Rattle.root_change.specs.Rewriting.{IsPlannedPart}
@@ -23,12 +24,12 @@ none_told P NoMemory sound = tt
 none_told P (Damaged file at) sound = absurd sound
 
 -- An entry whose text isn't in its place, after the disk was only read.
-lacks_here : (v : StoreState) (s : StoredEntry) (file : FileName) (k m : Option Content) → file ≡ epoch_file_of v.root s.epoch → BothTold Unchanged k m → WhereTold (LacksText file s.seen) m → WhereTold (λ (c : Content). HasText v.root s c → ⊥) k
+lacks_here : (v : StoreState) (s : StoredEntry) (file : FileName) (k m : Option Content) → file ≡ epoch_file_of v.root s.epoch → BothTold Unchanged k m → WhereTold (LacksText form.Sha1 file s.seen) m → WhereTold (λ (c : Content). HasText v.root s c → ⊥) k
 lacks_here v s file None m file_is same lack = tt
 lacks_here v s file (Some k) None file_is same lack = absurd same
 lacks_here v s file (Some k) (Some m) file_is same lack = λ has.
     let own = epoch_file_of v.root s.epoch in
-    let lacks : LacksText own s.seen k = subst (λ (f : FileName). LacksText f s.seen k) file_is (subst (LacksText file s.seen) (one_content k m same) lack) in
+    let lacks : LacksText form.Sha1 own s.seen k = subst (λ (f : FileName). LacksText form.Sha1 f s.seen k) file_is (subst (LacksText form.Sha1 file s.seen) (one_content k m same) lack) in
     let bytes = bytes_of (k own).seen in
     let long = has.long in
     lacks (omega (arith, long, length-take s.seen.size (drop s.seen.text_at bytes), length-drop s.seen.text_at bytes)) has.blob

@@ -19,7 +19,6 @@ use Rattle.root_slots.specs.declared.root.Root.{Root}
 use Rattle.root_slots.specs.Slots.{HasRootSize}
 use Rattle.root_slots.specs.Valid.{no_place}
 use Rattle.store_finding.specs.declared.entries.StoredEntry.{StoredEntry}
-use Rattle.store_planning.specs.declared.next.End.{End}
 use Rattle.store_planning.specs.declared.next.NextPlace.{NextPlace}
 use Rattle.store_finding.specs.Files.{map_file_of, epoch_file_of}
 use Rattle.store_finding.specs.Recovery.{bytes_in, RecoversWith}
@@ -173,7 +172,7 @@ pub record MayEdit (v : StoreState) (number : ℕ) (blob : ObjectId) (text : Lis
 -- What a purge leaves of what is kept: the entries but those with a blob id, in order. The next number
 -- and the settings stay.
 pub record DropsEntries (old new : StoreState) (blob : ObjectId) : Type 0 where
-  pub entries : AllZip KeptOf (without_blob old.entries blob.0) new.entries
+  pub entries : AllZip KeptOf (without_blob old.entries blob) new.entries
   pub next : new.root.next ≡ old.root.next
   pub config : new.root.config ≡ old.root.config
 
@@ -183,7 +182,7 @@ pub record EditsEntries (old new : StoreState) (blob : ObjectId) (text : List �
   pub front : List StoredEntry
   pub entry : StoredEntry
   pub entries : new.entries ≡ front ++ entry ∷ []
-  pub kept : AllZip KeptOf (without_blob old.entries blob.0) front
+  pub kept : AllZip KeptOf (without_blob old.entries blob) front
   pub kind : entry.seen.kind ≡ Message
   pub number : entry.number ≡ old.root.next
   pub id : own_id text ≡ Some entry.seen.id

@@ -41,7 +41,7 @@ line_by Deletion number epoch blob = []
 
 -- The same of a new entry, after the records of a root.
 abbrev pub line_of : Root → NextPlace → NewEntry → List ℕ
-line_of root p e = line_by e.kind root.next p.epoch (blob_id_of form.Sha1 e.text.now)
+line_of root p e = line_by e.kind root.next p.epoch (blob_id_of e.form e.text.now)
 
 -- The root after an entry of a kind. The epoch's file ends here, and the map has one more record for
 -- each number that was taken.
@@ -52,7 +52,7 @@ root_after root kind p end_ = record {
   next = root.next + numbers_by kind;
   map = record {
     generation = root.map.generation;
-    length = root.map.length + numbers_by kind * record_size form.Sha1;
+    length = root.map.length + record_size form.Sha1 * numbers_by kind;
   };
   epochs = set root.epochs p.epoch (record { generation = p.generation; length = end_ });
   cache = root.cache;

@@ -22,7 +22,7 @@ ghost use Rattle.store_finding.specs.Kept.{InEpochs, IsStoreWith};
 ghost use Rattle.store_planning.specs.Dropping.{KeptOf, without_blob};
 
 use crate::store::{MOST, Store, own_id_of};
-use arch_base::ObjectId;
+use arch_base::{Form, ObjectId};
 use disk_model::{Disk, FileKind, LAST_EPOCH};
 use epoch_file::{NewEntry, StoreRefusal, Written, entry_piece};
 use git_objects::EntryKind;
@@ -139,12 +139,12 @@ impl Store {
     ) -> Result<(), StoreRefusal>
         requires none { planned.old ≡ no_planning }
         requires there { (e : StoredEntry) × Contains self.now.entries e × (e.seen.blob ≡ blob.now) }
-        ensures kept { OnOk result (AllZip KeptOf (without_blob self.now.entries blob.now.0)
+        ensures kept { OnOk result (AllZip KeptOf (without_blob self.now.entries blob.now)
             planned.new.entries) }
         ensures plans { OnOk result (ArePlansIn self.now.root planned.new) }
         ensures taken { OnOk result (IsTakenToOffset self.now.root planned.new) }
         ensures changes { OnOk result ((e : ℕ)
-            → is_anew planned.new e ≡ loses self.now.entries blob.now.0 e) }
+            → is_anew planned.new e ≡ loses self.now.entries blob.now e) }
         ensures all { OnOk result (WhereTold
             (PlansFirst self.now blob.now (length self.now.entries) planned.new) (D.content disk.old)) }
         ensures undamaged { PlansUndamaged self.now result (D.content disk.old) }
@@ -234,6 +234,7 @@ impl Store {
             ids: *ids,
             moment,
             parent: place.parent,
+            form: Form::Sha1,
         };
         let (piece, made) = entry_piece(alloc, place.length, &entry)?;
         planned.append(place.epoch, piece.as_slice())?;

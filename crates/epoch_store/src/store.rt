@@ -25,7 +25,7 @@ ghost use Rattle.epoch_store.specs.Commands.{IsNextPlace, next_sequence, place_o
 use crate::first::{all_names, first_root, make, no_archive};
 use crate::refusal::InitRefusal;
 use crate::writing::write_entry;
-use arch_base::{Bytes, Config, NoMemory, ObjectId};
+use arch_base::{Bytes, Config, Form, NoMemory, ObjectId};
 use disk_model::{Disk, LAST_EPOCH};
 use epoch_file::{NewEntry, Seen, StoreRefusal, Written};
 use git_objects::EntryKind;
@@ -161,6 +161,7 @@ impl Store {
         requires written { written.now ≡ written_of place.now.length entry.now }
         requires short { place.now.length < 2 ^ 62 }
         requires parent { entry.now.parent ≡ place.now.parent }
+        requires form { entry.now.form ≡ form.Sha1 }
         requires ids { entry.now.ids ≡ text_ids_of form.Sha1 entry.now.text.now }
         requires id { own_id_in entry.now.text.now ≡ Some id }
         ensures lies { EntryLiesIn place.now.length written.now.end result.seen }
@@ -242,6 +243,7 @@ impl Store {
             ids: *ids,
             moment,
             parent: place.parent,
+            form: Form::Sha1,
         };
         root_fits(&self.root);
         let free = self.slot.other();

@@ -24,8 +24,8 @@ ghost use Rattle.store_finding.specs.Files.{map_file_of};
 ghost use Rattle.epoch_store.specs.Commands.{RootGoesOn, place_of};
 ghost use Rattle.store_planning.specs.Dropping.{SeesNoDamage};
 
-use arch_base::ObjectId;
-use disk_model::{Disk, DiskFault, RECORD_SIZE};
+use arch_base::{Form, ObjectId};
+use disk_model::{Disk, DiskFault, records_size};
 use epoch_file::{NewEntry, StoreRefusal, Written, append_entry};
 use git_objects::EntryKind;
 use number_map::{Record, append};
@@ -61,7 +61,7 @@ fn next_root(root: &Root, place: &NextPlace, kind: EntryKind, end: u64) -> Root
     let mut next = root.copy();
     next.sequence = next.sequence.saturating_add(1);
     next.next += numbers;
-    next.map.length += numbers as u64 * RECORD_SIZE as u64;
+    next.map.length += records_size(numbers, Form::Sha1);
     next.epochs[place.epoch as usize] = Place {
         generation: place.generation,
         length: end,
@@ -115,7 +115,7 @@ fn write_files<D: Disk>(
     requires place { place.now ≡ place_of root.now place.now.epoch place.now.parent }
     requires short { place.now.length < 2 ^ 62 }
     requires sizes { WhereTold (HasPartSizes root.now) (D.content disk.old) }
-    requires ids { entry.now.ids ≡ text_ids_of form.Sha1 entry.now.text.now }
+    requires ids { entry.now.ids ≡ text_ids_of entry.now.form entry.now.text.now }
     requires moment { entry.now.moment ≤ last_moment }
     ensures crash_beside { RunsBeside D.Disk (bounds_of root.now)
         disk.old disk.new }
@@ -149,9 +149,10 @@ pub(crate) fn write_entry<D: Disk>(
     requires small { place.now.epoch ≤ greatest_epoch }
     requires place { place.now ≡ place_of root.now place.now.epoch place.now.parent }
     requires short { place.now.length < 2 ^ 62 }
+    requires form { entry.now.form ≡ form.Sha1 }
     requires left { root.now.next + numbers_by entry.now.kind ≤ 2147483648 }
     requires sizes { WhereTold (HasPartSizes root.now) (D.content disk.old) }
-    requires ids { entry.now.ids ≡ text_ids_of form.Sha1 entry.now.text.now }
+    requires ids { entry.now.ids ≡ text_ids_of entry.now.form entry.now.text.now }
     requires moment { entry.now.moment ≤ last_moment }
     // At each moment a crash leaves files that stand for the parts before, or for those with the entry.
     ensures crash { (parts : Parts)

@@ -21,7 +21,7 @@ returns-in_err-replace_root-clause-crash g c = λ parts own room.
     let p = c.args.place.now in
     let e = c.args.entry.now in
     let made_is : c.next_root-next.result ≡ root_with root p e = c.next_root-next.ensures.root ∙ ap (λ (w : Written). root_after root e.kind p w.end) c.in_ok-written.ensures.written in
-    entered_leaves root p c.requires.place c.requires.small e c.root_fits.ensures.count g.D.Disk c.args.disk.now c.write_files.new.disk c.replace_root.new.disk (slot_number c.args.free) c.write_files.ensures.crash_beside c.in_ok-written.ensures.entered c.next_root-next.result made_is c.next_root-next.ensures.valid c.root_fits-2.ensures parts own room c.replace_root.ensures.crash
+    entered_leaves root p c.requires.place c.requires.small e c.requires.form c.root_fits.ensures.count g.D.Disk c.args.disk.now c.write_files.new.disk c.replace_root.new.disk (slot_number c.args.free) c.write_files.ensures.crash_beside c.in_ok-written.ensures.entered c.next_root-next.result made_is c.next_root-next.ensures.valid c.root_fits-2.ensures parts own room c.replace_root.ensures.crash
 
 pub returns-clause-crash : goal.returns-clause-crash
 returns-clause-crash g c = λ parts own room.
@@ -29,7 +29,7 @@ returns-clause-crash g c = λ parts own room.
     let p = c.args.place.now in
     let e = c.args.entry.now in
     let made_is : c.next_root-next.result ≡ root_with root p e = c.next_root-next.ensures.root ∙ ap (λ (w : Written). root_after root e.kind p w.end) c.in_ok-written.ensures.written in
-    entered_leaves root p c.requires.place c.requires.small e c.root_fits.ensures.count g.D.Disk c.args.disk.now c.write_files.new.disk c.replace_root.new.disk (slot_number c.args.free) c.write_files.ensures.crash_beside c.in_ok-written.ensures.entered c.next_root-next.result made_is c.next_root-next.ensures.valid c.root_fits-2.ensures parts own room c.replace_root.ensures.crash
+    entered_leaves root p c.requires.place c.requires.small e c.requires.form c.root_fits.ensures.count g.D.Disk c.args.disk.now c.write_files.new.disk c.replace_root.new.disk (slot_number c.args.free) c.write_files.ensures.crash_beside c.in_ok-written.ensures.entered c.next_root-next.result made_is c.next_root-next.ensures.valid c.root_fits-2.ensures parts own room c.replace_root.ensures.crash
 
 pub returns-clause-done : goal.returns-clause-done
 returns-clause-done g c = λ parts own room.
@@ -37,11 +37,11 @@ returns-clause-done g c = λ parts own room.
     let p = c.args.place.now in
     let e = c.args.entry.now in
     let made_is : c.next_root-next.result ≡ root_with root p e = c.next_root-next.ensures.root ∙ ap (λ (w : Written). root_after root e.kind p w.end) c.in_ok-written.ensures.written in
-    entered_done root p c.requires.place c.requires.small e c.root_fits.ensures.count g.D.Disk c.args.disk.now c.write_files.new.disk c.replace_root.new.disk (slot_number c.args.free) c.write_files.ensures.crash_beside c.in_ok-written.ensures.entered c.next_root-next.result made_is c.next_root-next.ensures.valid c.root_fits-2.ensures parts own room c.in_ok-replace_root.ensures.done
+    entered_done root p c.requires.place c.requires.small e c.requires.form c.root_fits.ensures.count g.D.Disk c.args.disk.now c.write_files.new.disk c.replace_root.new.disk (slot_number c.args.free) c.write_files.ensures.crash_beside c.in_ok-written.ensures.entered c.next_root-next.result made_is c.next_root-next.ensures.valid c.root_fits-2.ensures parts own room c.in_ok-replace_root.ensures.done
 
 pub replace_root-requires-clause-size : goal.replace_root-requires-clause-size
 replace_root-requires-clause-size g c =
-    root_sized c.args.root.now c.args.place.now c.requires.place c.requires.small c.args.entry.now c.root_fits.ensures.count (g.D.Disk.content c.args.disk.now) (g.D.Disk.content c.write_files.new.disk) c.requires.sizes c.in_ok-written.ensures.entered
+    root_sized c.args.root.now c.args.place.now c.requires.place c.requires.small c.args.entry.now c.requires.form c.root_fits.ensures.count (g.D.Disk.content c.args.disk.now) (g.D.Disk.content c.write_files.new.disk) c.requires.sizes c.in_ok-written.ensures.entered
 
 pub returns-clause-sizes : goal.returns-clause-sizes
 returns-clause-sizes g c =
@@ -52,11 +52,11 @@ returns-clause-sizes g c =
     let k2 = g.D.Disk.content c.replace_root.new.disk in
     let made_is : c.next_root-next.result ≡ root_with root p e = c.next_root-next.ensures.root ∙ ap (λ (w : Written). root_after root e.kind p w.end) c.in_ok-written.ensures.written in
     let Sized : Root → Type 0 = λ r. BothTold (KeepsNamed r) k1 k2 → WhereTold (HasPartSizes r) k2 in
-    subst Sized (sym made_is) (sizes_after root p c.requires.place c.requires.small e c.root_fits.ensures.count (g.D.Disk.content c.args.disk.now) k1 k2 c.requires.sizes c.in_ok-written.ensures.entered) c.in_ok-replace_root.ensures.kept
+    subst Sized (sym made_is) (sizes_after root p c.requires.place c.requires.small e c.requires.form c.root_fits.ensures.count (g.D.Disk.content c.args.disk.now) k1 k2 c.requires.sizes c.in_ok-written.ensures.entered) c.in_ok-replace_root.ensures.kept
 
 pub returns-clause-rooted : goal.returns-clause-rooted
 returns-clause-rooted g c =
-    rooted_after c.args.root.now c.args.place.now c.requires.place c.requires.small c.args.entry.now c.root_fits.ensures.count (slot_number c.args.free) (spelling c.next_root-next.result) (g.D.Disk.content c.args.disk.now) (g.D.Disk.content c.write_files.new.disk) (g.D.Disk.content c.replace_root.new.disk) c.in_ok-written.ensures.entered c.in_ok-replace_root.ensures.rooted
+    rooted_after c.args.root.now c.args.place.now c.requires.place c.requires.small c.args.entry.now c.requires.form c.root_fits.ensures.count (slot_number c.args.free) (spelling c.next_root-next.result) (g.D.Disk.content c.args.disk.now) (g.D.Disk.content c.write_files.new.disk) (g.D.Disk.content c.replace_root.new.disk) c.in_ok-written.ensures.entered c.in_ok-replace_root.ensures.rooted
 
 pub returns-in_err-written-clause-crash_between : goal.returns-in_err-written-clause-crash_between
 returns-in_err-written-clause-crash_between g c = beside_between g.D.Disk c.args.root.now c.args.disk.now c.write_files.new.disk c.write_files.ensures.crash_beside

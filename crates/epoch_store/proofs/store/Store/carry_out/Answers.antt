@@ -1,8 +1,7 @@
 -- What carrying out plans leaves, on the disk and in memory.
-use Rattle.std.proofs.Common.{◌≡◌, List, refl, rules, sym, ap, subst, ◌∙◌}
+use Rattle.std.proofs.Common.{◌≡◌, List, refl, rules, sym, subst}
 use Rattle.root_change.specs.Rewriting.{Plan}
 use Rattle.store_finding.specs.Extents.{AreNamed, AreNamedAfter}
-use Rattle.store_planning.specs.Planning.{Planning}
 use Rattle.store_finding.specs.Kept.{InEpochs, StoreState}
 use Rattle.epoch_store.proofs.Changing.{carried_done, carried_failed, carried_short, unstarted}
 use Rattle.epoch_store.proofs.EntryExtents.{named_after}

@@ -19,7 +19,7 @@ returns-in_err-planned-clause-changes g c = unplanned c.plan_without.ensures.rea
 pub plan_message-requires-clause-epochs : goal.plan_message-requires-clause-epochs
 plan_message-requires-clause-epochs g c =
     let low : InEpochs c.args.self.now.entries = subst (λ (v : StoreState). InEpochs v.entries) c.self.view_is c.self.invariant.1 in
-    kept_low c.args.self.now.entries c.in_ok-planned.planned.entries c.args.old.now.0 low c.in_ok-planned.ensures.planned.kept
+    kept_low c.args.self.now.entries c.in_ok-planned.planned.entries c.args.old.now low c.in_ok-planned.ensures.planned.kept
 
 pub returns-in_err-plan_message-clause-changes : goal.returns-in_err-plan_message-clause-changes
 returns-in_err-plan_message-clause-changes g c = unplanned c.plan_without.ensures.reads NoMemory (search rules) (λ a cache store. tt) tt (search rules) c.plan_without.ensures.fewest

@@ -1,5 +1,6 @@
 -- What is kept, and what is on the disk.
 use Rattle.std.proofs.Common.{refl, rules, ◌≡◌, ◌∙◌, ◌+◌, ◌++◌, ◌∷◌, [], ℕ, List, length, sym, ap, subst, is_ok, ◌≤◌, arith}
+use Rattle.arch_base.specs.declared.ids.Form.TheVariants as form
 use Rattle.disk_model.specs.Disk.{WhereTold}
 use Rattle.epoch_file.specs.Appending.{appended}
 use Rattle.epoch_file.specs.Lying.{EntryLiesIn}
@@ -34,17 +35,17 @@ write_entry-requires-clause-sizes g c = subst (λ (v : StoreState). WhereTold (H
 
 pub returns-in_err-root-clause-changes : goal.returns-in_err-root-clause-changes
 returns-in_err-root-clause-changes g c =
-    let e : NewEntry = record { kind = c.args.kind; text = c.args.text; ids = c.args.ids.now; moment = c.args.moment; parent = c.next_place-place.result.parent } in
+    let e : NewEntry = record { kind = c.args.kind; text = c.args.text; ids = c.args.ids.now; moment = c.args.moment; parent = c.next_place-place.result.parent; form = form.Sha1 } in
     let why = c.in_err-root.field-0.0 in
     let said = c.in_err-root.ensures in
     stopped why (search rules)
     (λ a b cache store room enters.
-    enters_leaves e (g.D.Disk.content c.args.disk.now) (same_view _ _ _ _ c.reserve.ensures.items ∙ c.self.view_is) c.other-free.ensures c.next_place-place.ensures.next refl a b cache store room enters g.D.Disk c.args.disk.now c.write_entry.new.disk c.write_entry.ensures.crash)
+    enters_leaves e (g.D.Disk.content c.args.disk.now) (same_view _ _ _ _ c.reserve.ensures.items ∙ c.self.view_is) c.other-free.ensures c.next_place-place.ensures.next refl refl a b cache store room enters g.D.Disk c.args.disk.now c.write_entry.new.disk c.write_entry.ensures.crash)
     (search rules) (unless_short why said.refused said.undamaged) said.undamaged (none_told _ why said.undamaged) (search rules) said.count c.write_entry.ensures.crash_between
 
 pub returns-clause-changes : goal.returns-clause-changes
 returns-clause-changes g c =
-    let e : NewEntry = record { kind = c.args.kind; text = c.args.text; ids = c.args.ids.now; moment = c.args.moment; parent = c.next_place-place.result.parent } in
+    let e : NewEntry = record { kind = c.args.kind; text = c.args.text; ids = c.args.ids.now; moment = c.args.moment; parent = c.next_place-place.result.parent; form = form.Sha1 } in
     let k0 = g.D.Disk.content c.args.disk.now in
     let k3 = g.D.Disk.content c.write_entry.new.disk in
     let root = c.in_ok-root.root in
@@ -53,9 +54,9 @@ returns-clause-changes g c =
     let more = pushed (is_ok c.push.result) c.reserve.new.self.items c.push.new.self.items c.new_entry-stored.result c.push.ensures.items (c.push.ensures.succeeds (omega (arith, full))) in
     record {
       crash = λ a b cache store room enters.
-          enters_leaves e k0 same c.other-free.ensures c.next_place-place.ensures.next refl a b cache store room enters g.D.Disk c.args.disk.now c.write_entry.new.disk c.write_entry.ensures.crash;
+          enters_leaves e k0 same c.other-free.ensures c.next_place-place.ensures.next refl refl a b cache store room enters g.D.Disk c.args.disk.now c.write_entry.new.disk c.write_entry.ensures.crash;
       done = λ a b cache store room enters.
-          enters_store e k0 same c.other-free.ensures c.next_place-place.ensures.next refl a b cache store room enters root c.push.new.self.items c.new_entry-stored.result k3 c.in_ok-root.ensures.root more c.new_entry-stored.ensures.stored c.in_ok-root.ensures.done;
+          enters_store e k0 same c.other-free.ensures c.next_place-place.ensures.next refl refl a b cache store room enters root c.push.new.self.items c.new_entry-stored.result k3 c.in_ok-root.ensures.root more c.new_entry-stored.ensures.stored c.in_ok-root.ensures.done;
       settled = c.in_ok-root.ensures.settled;
       sizes = sizes_of_parts root (slot_number c.other-free.result) c.push.new.self.items k3 c.in_ok-root.ensures.sizes;
       goes_on = subst (λ (u : StoreState). RootGoesOn u.root root) c.self.view_is c.in_ok-root.ensures.goes_on;
@@ -80,7 +81,7 @@ invariant_of-self-3 g c =
     let small = c.next_place-place.ensures.small in
     let low : stored.epoch ≤ 63 = omega (arith, epoch_is, small) in
     let p = c.next_place-place.result in
-    let e : NewEntry = record { kind = c.args.kind; text = c.args.text; ids = c.args.ids.now; moment = c.args.moment; parent = p.parent } in
+    let e : NewEntry = record { kind = c.args.kind; text = c.args.text; ids = c.args.ids.now; moment = c.args.moment; parent = p.parent; form = form.Sha1 } in
     let w : StoreState = record { root = c.self.inside.root; slot = slot_number c.self.inside.slot; entries = c.self.inside.entries.items } in
     let place = subst (λ (u : StoreState). p ≡ place_of u.root p.epoch p.parent) (sym c.self.view_is) c.next_place-place.ensures.place in
     let last = subst (λ (u : StoreState). AreUpToEpoch p.epoch u.entries) (sym c.self.view_is) c.next_place-place.ensures.last in

@@ -1,6 +1,5 @@
 -- What is left while the archive is opened, and what is there then.
 use Rattle.std.proofs.Common.{inl, inr, rules}
-use Rattle.arch_judge.specs.declared.index.Index.{Index}
 use Rattle.disk_model.specs.Disk.{Files, Image}
 use Rattle.disk_model.specs.Moments.{started, joined, weaker}
 use Rattle.root_change.specs.Texts.{StandsFor}

@@ -23,7 +23,7 @@ loop-entry-init g c =
     let blob = c.args.blob.now in
     let none = sym c.requires.none in
     record {
-      kept = subst (λ (p : Planning). AllZip KeptOf (without_blob (take 0 v.entries) blob.0) p.entries) none tt;
+      kept = subst (λ (p : Planning). AllZip KeptOf (without_blob (take 0 v.entries) blob) p.entries) none tt;
       plans = subst (ArePlansIn v.root) none (plans_none v.root);
       taken =
           let named : AreNamed v.root v.entries = subst (λ (u : StoreState). AreNamed u.root u.entries) c.self.view_is c.self.invariant.2 in
@@ -85,14 +85,14 @@ returns-clause-kept g c =
     let v = c.args.self.now in
     let same : c.as_slice-entry-items.result.now ≡ v.entries = c.as_slice-entry-items.ensures.value ∙ ap (λ (u : StoreState). u.entries) c.self.view_is in
     let size : length c.as_slice-entry-items.result.now ≡ length v.entries = ap length same in
-    subst (λ (es : List StoredEntry). AllZip KeptOf (without_blob es c.args.blob.now.0) c.loop-entry.planned.entries) (take_all c.loop-entry.entry-index v.entries (omega (arith, c.loop-entry-test.false, size))) c.loop-entry.invariant.kept
+    subst (λ (es : List StoredEntry). AllZip KeptOf (without_blob es c.args.blob.now) c.loop-entry.planned.entries) (take_all c.loop-entry.entry-index v.entries (omega (arith, c.loop-entry-test.false, size))) c.loop-entry.invariant.kept
 
 pub returns-clause-changes : goal.returns-clause-changes
 returns-clause-changes g c = λ n.
     let v = c.args.self.now in
     let same : c.as_slice-entry-items.result.now ≡ v.entries = c.as_slice-entry-items.ensures.value ∙ ap (λ (u : StoreState). u.entries) c.self.view_is in
     let size : length c.as_slice-entry-items.result.now ≡ length v.entries = ap length same in
-    subst (λ (es : List StoredEntry). is_anew c.loop-entry.planned n ≡ loses es c.args.blob.now.0 n) (take_all c.loop-entry.entry-index v.entries (omega (arith, c.loop-entry-test.false, size))) (c.loop-entry.invariant.changes n)
+    subst (λ (es : List StoredEntry). is_anew c.loop-entry.planned n ≡ loses es c.args.blob.now n) (take_all c.loop-entry.entry-index v.entries (omega (arith, c.loop-entry-test.false, size))) (c.loop-entry.invariant.changes n)
 
 pub returns-clause-all : goal.returns-clause-all
 returns-clause-all g c =

@@ -10,10 +10,10 @@ use Rattle.epoch_store.proofs.store.Store.plan_entries.Given as goal
 
 abbrev pub invariant-loop-entry : goal.invariant-loop-entry
 invariant-loop-entry g l = record {
-  kept : AllZip KeptOf (without_blob (take l.entry-index l.self.entries) l.blob.0) l.planned.entries;
+  kept : AllZip KeptOf (without_blob (take l.entry-index l.self.entries) l.blob) l.planned.entries;
   plans : ArePlansIn l.self.root l.planned;
   taken : IsTakenSo l.self.root (drop l.entry-index l.self.entries) l.planned;
-  changes : (e : ℕ) → is_anew l.planned e ≡ loses (take l.entry-index l.self.entries) l.blob.0 e;
+  changes : (e : ℕ) → is_anew l.planned e ≡ loses (take l.entry-index l.self.entries) l.blob e;
   first : WhereTold (PlansFirst l.self l.blob l.entry-index l.planned) (g.D.Disk.content l.fn.disk);
   reads : OnlyReads g.D.Disk l.fn.disk l.disk;
   steady : g.D.Disk.faults l.disk ≡ g.D.Disk.faults l.fn.disk;

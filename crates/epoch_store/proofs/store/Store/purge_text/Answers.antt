@@ -15,7 +15,7 @@ pub returns-in-Err-clause-changes : goal.returns-in-Err-clause-changes
 returns-in-Err-clause-changes g c = unplanned c.plan_without.ensures.reads c.in-Err.refusal refl c.in-Err.ensures.undamaged (entry_told c.args.self.now (g.D.Disk.content c.args.disk.now) c.in-Err.refusal c.in-Err.ensures.damage) (search rules) c.plan_without.ensures.fewest
 
 pub carry_out-requires-clause-epochs : goal.carry_out-requires-clause-epochs
-carry_out-requires-clause-epochs g c = kept_low c.args.self.now.entries c.in-Ok.planned.entries c.args.blob.now.0 (subst (λ (u : StoreState). InEpochs u.entries) c.self.view_is c.self.invariant.1) c.in-Ok.ensures.planned.kept
+carry_out-requires-clause-epochs g c = kept_low c.args.self.now.entries c.in-Ok.planned.entries c.args.blob.now (subst (λ (u : StoreState). InEpochs u.entries) c.self.view_is c.self.invariant.1) c.in-Ok.ensures.planned.kept
 
 pub returns-clause-changes : goal.returns-clause-changes
 returns-clause-changes g c =
