@@ -3,7 +3,9 @@ use Rattle.std.proofs.Common.{◌≡◌, ◌+◌, ◌≤◌, ℕ, Bool, true, fa
 use Rattle.std.specs.Str.{bytes_eq}
 use Rattle.std.proofs.lemmas.Slice.Eq.{bytes_eq-Decides}
 use Rattle.arch_base.specs.declared.config.Config.{Config}
+use Rattle.arch_base.specs.Ids.{id_eq}
 use Rattle.arch_base.specs.declared.ids.ObjectId.{ObjectId}
+use Rattle.arch_base.proofs.IdOrder.{id_eq-Decides}
 use Rattle.arch_base.specs.declared.ids.Form.TheVariants as form
 use Rattle.git_objects.specs.Objects.{blob_id_of}
 use Rattle.git_objects.specs.declared.entry_kind.EntryKind.{EntryKind}
@@ -22,9 +24,6 @@ use Rattle.mem_archive.proofs.Ends.{NewEnd, IsEpochEnd-new, IsEpochEnd-in, end-a
 use Rattle.mem_archive.proofs.Keeping.{has_id}
 
 -- Where each entry with the blob id of a text has the text, none collides with it.
-same_id : (i j : ObjectId) → i.0 ≡ j.0 → i ≡ j
-same_id i j same = ap (λ (l : List ℕ). let id : ObjectId = record { 0 = l } in id) same
-
 clash_step : (b t : Bool) (n : ℕ) (rest : Option ℕ) → (b ≡ true → t ≡ true) → rest ≡ None → (if b && not t then Some n else rest) ≡ None
 clash_step true true n rest same none = none
 clash_step true false n rest same none = absurd (let wrong : false ≡ true = same refl in cc)
@@ -33,9 +32,9 @@ clash_step false t n rest same none = none
 pub none_collides : (es : List Entry) (text : List ℕ) → Agrees text es → collision es text ≡ None
 none_collides [] text agrees = refl
 none_collides (e ∷ es) text agrees =
-    let blob = (blob_id_of form.Sha1 text).0 in
-    let own = (blob_id_of form.Sha1 e.text).0 in
-    clash_step (bytes_eq blob own) (bytes_eq text e.text) e.number (collision es text) (λ hit. (bytes_eq-Decides text e.text).1 (agrees.0 (same_id (blob_id_of form.Sha1 text) (blob_id_of form.Sha1 e.text) ((bytes_eq-Decides blob own).0 hit)))) (none_collides es text agrees.1)
+    let blob = blob_id_of form.Sha1 text in
+    let own = blob_id_of form.Sha1 e.text in
+    clash_step (id_eq blob own) (bytes_eq text e.text) e.number (collision es text) (λ hit. (bytes_eq-Decides text e.text).1 (agrees.0 ((id_eq-Decides blob own).0 hit))) (none_collides es text agrees.1)
 
 -- An entry may be appended to an archive, which gives another one, and the end after it is this.
 pub record Appends (a : Archive) (e : Entry) (commit : ObjectId) (next : End) (wanted : Archive) : Type 0 where

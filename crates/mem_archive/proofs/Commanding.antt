@@ -1,5 +1,5 @@
 -- The archive in memory as a keeper of itself.
-use Rattle.std.proofs.Common.{◌≡◌, ℕ, Bool, true, false, List, ◌++◌, length, Option, Some, None, is_some, Ok, inl, inr, refl, sym, ap, subst, ◌∙◌}
+use Rattle.std.proofs.Common.{◌≡◌, ℕ, true, false, List, ◌++◌, length, Some, None, is_some, Ok, inl, inr, refl, sym, ap, subst, ◌∙◌}
 use Rattle.std.specs.List.{Contains}
 use Rattle.mem_archive.specs.Crashes.{in_memory}
 use Rattle.arch_model.specs.Archives.{Archive, live, text_of}

@@ -48,8 +48,8 @@ module _ (config : Config) (ks : List Kept) (places : List (Option KeptPlace)) (
         let own = some-of (own_id text) comes.storage.id in
         (own.0, own.1, ap (λ (b : Archive). owner (live b.entries) own.0) (sym is) ∙ unowned (entries_of ks) index own.0 kept.indexed (comes.new_id own.0 own.1))
 
-    named : blob_number a.entries (blob_id_of form.Sha1 text).0 ≡ number_in index.blobs ids.blob.0
-    named = ap (λ (i : TextIds). blob_number a.entries i.blob.0) (sym comes.ids_are) ∙ ap (λ (b : Archive). blob_number b.entries ids.blob.0) (sym is) ∙ sym (kept.indexed.blobs ids.blob.0)
+    named : blob_number a.entries (blob_id_of form.Sha1 text) ≡ number_in index.blobs ids.blob
+    named = ap (λ (i : TextIds). blob_number a.entries i.blob) (sym comes.ids_are) ∙ ap (λ (b : Archive). blob_number b.entries ids.blob) (sym is) ∙ sym (kept.indexed.blobs ids.blob)
 
     module _ (next : ℕ) (next_is : next ≡ a.next) where
       room : (number : ℕ) → MayBeKept config index next text ids number → a.next ≤ a.config.max
@@ -59,21 +59,21 @@ module _ (config : Config) (ks : List Kept) (places : List (Option KeptPlace)) (
           omega (arith, left, most, next_is)
 
       -- A text with a new blob id may be kept.
-      pub keep-new : (number : ℕ) → MayBeKept config index next text ids number → number_in index.blobs ids.blob.0 ≡ None → MayKeep a (Take text ids number)
+      pub keep-new : (number : ℕ) → MayBeKept config index next text ids number → number_in index.blobs ids.blob ≡ None → MayKeep a (Take text ids number)
       keep-new number may new = (free-text, comes.ids_are, collision-alone a.entries text (named ∙ new), room number may, may.number_is ∙ next_is)
 
       -- So may one that was compared with the same text.
-      pub keep-same : (number : ℕ) (found : ℕ) → MayBeKept config index next text ids number → number_in index.blobs ids.blob.0 ≡ Some found → blob_text a.entries (blob_id_of form.Sha1 text).0 ≡ Some text → MayKeep a (Take text ids number)
+      pub keep-same : (number : ℕ) (found : ℕ) → MayBeKept config index next text ids number → number_in index.blobs ids.blob ≡ Some found → blob_text a.entries (blob_id_of form.Sha1 text) ≡ Some text → MayKeep a (Take text ids number)
       keep-same number found may first text_is =
           let agree = subst (λ (b : Archive). collision b.entries text ≡ None) is
-          (collision-first (entries_of ks) text text found kept.blobs (ap (λ (b : Archive). blob_number b.entries (blob_id_of form.Sha1 text).0) is ∙ named ∙ first) (ap (λ (b : Archive). blob_text b.entries (blob_id_of form.Sha1 text).0) is ∙ text_is)
+          (collision-first (entries_of ks) text text found kept.blobs (ap (λ (b : Archive). blob_number b.entries (blob_id_of form.Sha1 text)) is ∙ named ∙ first) (ap (λ (b : Archive). blob_text b.entries (blob_id_of form.Sha1 text)) is ∙ text_is)
           ∙ ap (λ (t : Bool). if t then None else Some found) (bytes_eq-refl text text refl)) in
           (free-text, comes.ids_are, agree, room number may, may.number_is ∙ next_is)
 
       -- What a comparison decides.
-      pub compared-keeps : (found : ℕ) (held : List ℕ) (v : Verdict) → number_in index.blobs ids.blob.0 ≡ Some found → blob_text a.entries ids.blob.0 ≡ Some held → TakesThis config next text ids v → TakesSame text held v → MayKeep a v
+      pub compared-keeps : (found : ℕ) (held : List ℕ) (v : Verdict) → number_in index.blobs ids.blob ≡ Some found → blob_text a.entries ids.blob ≡ Some held → TakesThis config next text ids v → TakesSame text held v → MayKeep a v
       compared-keeps found held (Take taken other number) first held_is takes same =
-          let text_is : blob_text a.entries (blob_id_of form.Sha1 text).0 ≡ Some text = ap (λ (i : TextIds). blob_text a.entries i.blob.0) (sym comes.ids_are) ∙ held_is ∙ ap Some same in
+          let text_is : blob_text a.entries (blob_id_of form.Sha1 text) ≡ Some text = ap (λ (i : TextIds). blob_text a.entries i.blob) (sym comes.ids_are) ∙ held_is ∙ ap Some same in
           let keeps : MayKeep a (Take text ids number) = keep-same number found (takes.2 index comes) first text_is in
           subst (λ (t : List ℕ). MayKeep a (Take t other number)) (sym takes.0) (subst (λ (i : TextIds). MayKeep a (Take text i number)) (sym takes.1) keeps)
       compared-keeps found held (Refuse reply) first held_is takes same = tt
@@ -84,10 +84,10 @@ module _ (config : Config) (ks : List Kept) (places : List (Option KeptPlace)) (
   judged-keeps next next_is (Refuse reply) may = tt
 
   -- The text that is compared is that of the first entry with the blob id.
-  pub compared-with : (blob : ObjectId) (found : ℕ) (held : List ℕ) → number_in index.blobs blob.0 ≡ Some found → Some held ≡ text_of (messages a.entries) found → blob_text a.entries blob.0 ≡ Some held
-  compared-with blob found held first held_is = sym (blob_in-some config ks places index end_ a is kept blob.0 found (Some held) (sym first) held_is)
+  pub compared-with : (blob : ObjectId) (found : ℕ) (held : List ℕ) → number_in index.blobs blob ≡ Some found → Some held ≡ text_of (messages a.entries) found → blob_text a.entries blob ≡ Some held
+  compared-with blob found held first held_is = sym (blob_in-some config ks places index end_ a is kept blob found (Some held) (sym first) held_is)
 
-  pub compared-decides : (bytes text : List ℕ) (blob : ObjectId) (found : ℕ) (held : List ℕ) → Compares a bytes text blob found → blob_text a.entries blob.0 ≡ Some held → (moment : ℕ) → delivered a bytes moment ≡ delivered_kept a text moment (unless_same text held found)
+  pub compared-decides : (bytes text : List ℕ) (blob : ObjectId) (found : ℕ) (held : List ℕ) → Compares a bytes text blob found → blob_text a.entries blob ≡ Some held → (moment : ℕ) → delivered a bytes moment ≡ delivered_kept a text moment (unless_same text held found)
   compared-decides bytes text blob found held compares held_is moment = compares.decides (subst (λ (b : Archive). BlobsAgree b.entries) is kept.blobs) held held_is moment
 
 -- The answers to a removal.

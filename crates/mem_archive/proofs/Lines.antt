@@ -1,8 +1,9 @@
 -- Kept entries without their texts, and their texts by blob ids.
 use Rattle.std.proofs.Common.{◌≡◌, ◌<◌, ◌≤◌, ℕ, zero, suc, Bool, true, false, if◌then◌else◌, List, [], ◌∷◌, ◌++◌, length, get_or, slice_get, Option, Some, None, refl, sym, ap, ◌∙◌, arith}
 use Rattle.arch_base.specs.declared.config.Config.{Config}
+use Rattle.arch_base.specs.Ids.{id_eq}
+use Rattle.arch_base.specs.declared.ids.ObjectId.{ObjectId}
 use Rattle.arch_base.specs.declared.ids.Form.TheVariants as form
-use Rattle.std.specs.Str.{bytes_eq}
 use Rattle.git_objects.specs.Objects.{blob_id_of}
 use Rattle.git_objects.specs.declared.entry_kind.EntryKind.{EntryKind}
 use Rattle.arch_model.specs.Archives.{Archive, Entry, messages, text_of, blob_number}
@@ -50,9 +51,9 @@ number_step : (t : Bool) (e : Entry) (number : Option ℕ) (text : Option (List 
 number_step true e number text n some none rest = absurd (let wrong : Some e.text ≡ None = none in cc)
 number_step false e number text n some none rest = rest some none
 
-blob-both : (es : List Entry) (blob : List ℕ) (n : ℕ) → blob_number es blob ≡ Some n → blob_text es blob ≡ None → ⊥
+blob-both : (es : List Entry) (blob : ObjectId) (n : ℕ) → blob_number es blob ≡ Some n → blob_text es blob ≡ None → ⊥
 blob-both [] blob n some none = absurd (let wrong : None ≡ Some n = some in cc)
-blob-both (e ∷ es) blob n some none = number_step (bytes_eq blob (blob_id_of form.Sha1 e.text).0) e (blob_number es blob) (blob_text es blob) n some none (blob-both es blob n)
+blob-both (e ∷ es) blob n some none = number_step (id_eq blob (blob_id_of form.Sha1 e.text)) e (blob_number es blob) (blob_text es blob) n some none (blob-both es blob n)
 
 module _ (config : Config) (ks : List Kept) (places : List (Option KeptPlace)) (index : Index) (end_ : End) (a : Archive) (is : archive_of config ks places ≡ a) (kept : IsKept config ks places index end_) where
   same_lines : (i : ℕ) → slice_get (lines_of ks) i ≡ line_at a.entries i
@@ -65,15 +66,15 @@ module _ (config : Config) (ks : List Kept) (places : List (Option KeptPlace)) (
   pub line_in-past : (i : ℕ) → length ks ≤ i → None ≡ line_at a.entries i
   line_in-past i h = sym (lines_of-past i ks h) ∙ same_lines i
 
-  numbered : (blob : List ℕ) → number_in index.blobs blob ≡ blob_number (entries_of ks) blob
+  numbered : (blob : ObjectId) → number_in index.blobs blob ≡ blob_number (entries_of ks) blob
   numbered blob = kept.indexed.blobs blob
 
   -- No entry has the blob id.
-  pub blob_in-none : (blob : List ℕ) → None ≡ number_in index.blobs blob → None ≡ blob_text a.entries blob
+  pub blob_in-none : (blob : ObjectId) → None ≡ number_in index.blobs blob → None ≡ blob_text a.entries blob
   blob_in-none blob none = sym (blob-none (entries_of ks) blob (sym (numbered blob) ∙ sym none)) ∙ ap (λ (b : Archive). blob_text b.entries blob) is
 
   -- The message with this number is the first that has it, and its text is the one.
-  pub blob_in-some : (blob : List ℕ) (n : ℕ) (found : Option (List ℕ)) → Some n ≡ number_in index.blobs blob → found ≡ text_of (messages a.entries) n → found ≡ blob_text a.entries blob
+  pub blob_in-some : (blob : ObjectId) (n : ℕ) (found : Option (List ℕ)) → Some n ≡ number_in index.blobs blob → found ≡ text_of (messages a.entries) n → found ≡ blob_text a.entries blob
   blob_in-some blob n found some found_is =
       found_is
       ∙ sym (ap (λ (b : Archive). text_of (messages b.entries) n) is)
@@ -81,7 +82,7 @@ module _ (config : Config) (ks : List Kept) (places : List (Option KeptPlace)) (
       ∙ ap (λ (b : Archive). blob_text b.entries blob) is
 
   -- A number that the index has for a blob id has a message.
-  pub number_in-some : (blob : List ℕ) (n : ℕ) → number_in index.blobs blob ≡ Some n → text_of (messages a.entries) n ≡ None → ⊥
+  pub number_in-some : (blob : ObjectId) (n : ℕ) → number_in index.blobs blob ≡ Some n → text_of (messages a.entries) n ≡ None → ⊥
   number_in-some blob n some none =
       let text_is : None ≡ blob_text a.entries blob = blob_in-some blob n None (sym some) (sym none) in
       blob-both (entries_of ks) blob n (sym (numbered blob) ∙ some) (ap (λ (b : Archive). blob_text b.entries blob) is ∙ sym text_is)

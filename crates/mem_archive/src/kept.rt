@@ -7,11 +7,11 @@ ghost use Rattle.git_objects.specs.Objects.{blob_id_of};
 ghost use Rattle.mail_commits.specs.Entries.{commit_id, entry_bytes};
 ghost use Rattle.mem_archive.specs.Memory.{entry_of, line_of, front_bytes, end_for_new, end_by_room, end_in_epoch, end_after, BytesGrow};
 
-use arch_base::{Bytes, NoMemory, ObjectId};
+use arch_base::{Bytes, Form, NoMemory, ObjectId};
 use arch_model::EntryLine;
 use disk_model::LAST_EPOCH;
 use git_objects::{EntryKind, blob_id};
-use mail_commits::{MAGIC, push_entry};
+use mail_commits::{EntryText, magic, push_entry};
 use std::alloc::Global;
 
 /// An entry as the archive in memory keeps it.
@@ -41,7 +41,7 @@ impl Kept {
             number: self.number,
             epoch: self.epoch,
             secs: self.moment,
-            blob: blob_id(self.text.as_slice()),
+            blob: blob_id(self.text.as_slice(), Form::Sha1),
             size: self.text.as_slice().len() as u64,
             commit: self.commit,
         }
@@ -186,7 +186,13 @@ pub(crate) fn push_after(
     ensures err { OnErr result (BytesGrow into.old into.new) }
 {
     push_front(parent, into)?;
-    let ids = push_entry(alloc, kind, text, blob, moment, parent, into)?;
+    let entry = EntryText {
+        form: Form::Sha1,
+        kind,
+        text,
+        moment,
+    };
+    let ids = push_entry(alloc, &entry, blob, parent, into)?;
     Ok(ids.commit)
 }
 
@@ -197,7 +203,7 @@ fn push_front(parent: Option<ObjectId>, into: &mut Bytes) -> Result<(), NoMemory
     ensures { into.new ≡ (if is_ok result then into.old ++ front_bytes parent else into.old) }
 {
     match parent {
-        None => into.push_slice(&MAGIC),
+        None => into.push_slice(&magic(Form::Sha1)),
         Some(_) => Ok(()),
     }
 }

@@ -23,7 +23,7 @@ ghost use Rattle.git_objects.specs.declared.entry_kind.EntryKind.{EntryKind};
 
 use crate::kept::{End, Kept, KeptPlace, push_after};
 use crate::placing::{count_live, greatest_live, hide, least_live, once_at, place_of, shown_at};
-use arch_base::{Bytes, Config, MessageNumbers, NoMemory, ObjectId};
+use arch_base::{Bytes, Config, Form, MessageNumbers, NoMemory, ObjectId};
 use arch_judge::{Index, Judgement, Owner, Verdict, compared, judge};
 use arch_model::{Answer, Command, EntryLine, Query, Row};
 use git_objects::{EntryKind, blob_id};
@@ -194,7 +194,7 @@ impl MemArchive {
 
     /// Returns the text of the entries with this blob id, or `None` if there is none.
     pub(crate) fn text_of_blob(&self, blob: &ObjectId) -> Option<&[u8]>
-        ensures { option_copied result ≡ blob_text self.now.entries blob.now.0 }
+        ensures { option_copied result ≡ blob_text self.now.entries blob.now }
     {
         match self.index.number(blob) {
             None => None,
@@ -241,7 +241,7 @@ impl MemArchive {
                     self.alloc,
                     kept.kind,
                     kept.text.as_slice(),
-                    &blob_id(kept.text.as_slice()),
+                    &blob_id(kept.text.as_slice(), Form::Sha1),
                     kept.moment,
                     parent,
                     into,
@@ -359,7 +359,7 @@ impl MemArchive {
         ensures done { Delivers self.old result self.new (removed self.old number moment) }
         ensures untouched { IsUntouched result self.old self.new }
     {
-        let id = blob_id(text.as_slice());
+        let id = blob_id(text.as_slice(), Form::Sha1);
         match self.push_deletion(number, text, &id, moment) {
             Ok(()) => Answer::Ok { number, id },
             Err(NoMemory) => Answer::NoMemory,
@@ -414,7 +414,7 @@ impl MemArchive {
         let Some(text) = self.text_once(number) else {
             return Answer::NoText(number);
         };
-        let id = blob_id(text);
+        let id = blob_id(text, Form::Sha1);
         match self.without_text(text) {
             Ok(without) => {
                 *self = without;
@@ -490,7 +490,7 @@ impl MemArchive {
     {
         let begin = self.end.in_epoch(kept.epoch, self.config.limit);
         let text = kept.text.as_slice();
-        let ids = text_ids(text);
+        let ids = text_ids(text, Form::Sha1);
         let end = begin.after(self.alloc, kept.kind, text, &ids.blob, kept.moment)?;
         let commit = end.parent.unwrap();
         let entry = kept.copy(self.alloc, commit)?;

@@ -1,5 +1,3 @@
-use Rattle.arch_model.specs.Archives.{Archive}
-use Rattle.arch_model.specs.Delivery.{applied}
 use Rattle.mem_archive.proofs.Commanding.{command-done, stays-ready, never-fails}
 use Rattle.mem_archive.proofs.memory_keep.MemArchiveKeep.command.Goals as goal
 
