@@ -1,6 +1,6 @@
 //! Maps on a disk in memory: their bytes, what is read of them, and where they are damaged.
 use crate::file_names::M;
-use arch_base::{ObjectId, Numbers};
+use arch_base::{Form, Numbers, ObjectId};
 use disk_model::{Disk, DiskFault, FuseDisk, MemDisk, WalkRefusal};
 use number_map::{Record, Records, append, law_of_records, walk};
 use std::alloc::Global;
@@ -12,17 +12,17 @@ const LINES: [Record; 3] = [
     Record {
         number: 1,
         epoch: 0,
-        blob: ObjectId(*b"abcdefghijklmnopqrst"),
+        blob: ObjectId::Sha1(*b"abcdefghijklmnopqrst"),
     },
     Record {
         number: 2,
         epoch: 4_294_967_295,
-        blob: ObjectId([0; 20]),
+        blob: ObjectId::Sha1([0; 20]),
     },
     Record {
         number: 3,
         epoch: 63,
-        blob: ObjectId(*b"ABCDEFGHIJKLMNOPQRST"),
+        blob: ObjectId::Sha1(*b"ABCDEFGHIJKLMNOPQRST"),
     },
 ];
 
@@ -153,7 +153,7 @@ fn trim<D: Disk>(disk: &mut D, length: u64) -> Result<(), DiskFault> {
 
 /// Returns where the map is damaged, or `None` if its records up to a number are read.
 fn damage<D: Disk>(alloc: Global, disk: &mut D, count: u32) -> Result<Option<u64>, WalkRefusal> {
-    match walk(alloc, disk, M, count) {
+    match walk(alloc, disk, M, count, Form::Sha1) {
         Ok(_) => Ok(None),
         Err(WalkRefusal::Damaged { at }) => Ok(Some(at)),
         Err(refusal) => Err(refusal),
@@ -177,7 +177,7 @@ fn has_bytes<D: Disk>(disk: &mut D) -> Result<bool, DiskFault> {
 
 /// Returns whether the three records are read, and copied.
 fn has_records<D: Disk>(alloc: Global, disk: &mut D) -> Result<bool, WalkRefusal> {
-    let lines: Records = walk(alloc, disk, M, 3)?;
+    let lines: Records = walk(alloc, disk, M, 3, Form::Sha1)?;
     let copied = lines.copy()?;
     Ok(lines.as_slice() == LINES.as_slice() && copied.as_slice() == LINES.as_slice())
 }
@@ -255,7 +255,7 @@ fn a_map_cut_short_is_damaged_at_its_last_record(rt: HostRuntime) -> Result<(), 
 
 /// Puts so many records onto a disk.
 fn put_many<D: Disk>(disk: &mut D, count: u32) -> Result<(), DiskFault> {
-    let blob = ObjectId(*b"abcdefghijklmnopqrst");
+    let blob = ObjectId::Sha1(*b"abcdefghijklmnopqrst");
     for before in 0..count {
         let number = before.saturating_add(1);
         let line = Record {
@@ -270,7 +270,7 @@ fn put_many<D: Disk>(disk: &mut D, count: u32) -> Result<(), DiskFault> {
 
 /// Returns whether so many records are read, and the last of them is that of its number.
 fn has_many<D: Disk>(alloc: Global, disk: &mut D, count: u32) -> Result<bool, WalkRefusal> {
-    let lines = walk(alloc, disk, M, count)?;
+    let lines = walk(alloc, disk, M, count, Form::Sha1)?;
     let Some(last) = lines.as_slice().last() else {
         return Ok(false);
     };
