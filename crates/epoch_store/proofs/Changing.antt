@@ -12,7 +12,8 @@ use Rattle.epoch_file.specs.Runs.{OnlyReads}
 use Rattle.epoch_file.specs.declared.refusal.StoreRefusal.{StoreRefusal}
 use Rattle.epoch_file.specs.declared.refusal.StoreRefusal.TheVariants.{DiskFault, NoMemory, Damaged}
 use Rattle.root_slots.specs.declared.root.Root.{Root}
-use Rattle.root_slots.specs.Between.{RunsBetween, looks_between}
+use Rattle.root_slots.specs.OneRoot.{BeginsRootIn}
+use Rattle.root_slots.proofs.OneRoots.{looks_one}
 use Rattle.root_slots.specs.Spelling.{spelling}
 use Rattle.root_change.specs.declared.rewriting.RewriteRefusal.{RewriteRefusal}
 use Rattle.root_change.specs.declared.rewriting.RewriteRefusal.TheVariants as rewrite
@@ -29,7 +30,7 @@ use Rattle.epoch_store.proofs.CarriedOut.{reads_then, rooted_since, store_back, 
 use Rattle.epoch_store.proofs.Carrying.{carried_leaves, carried_on, carried_store, sizes_carried}
 use Rattle.store_finding.proofs.FindingTold.{reads_none}
 use Rattle.epoch_store.proofs.Kept.{stands_now}
-use Rattle.epoch_store.proofs.Readying.{read_between}
+use Rattle.epoch_store.proofs.Readying.{read_begins}
 use Rattle.epoch_store.proofs.TextDamage.{content_is, short_told}
 
 -- An error before which nothing was written, by one that was asked for.
@@ -77,9 +78,9 @@ module _ {D : Type 0} {g : Disk D} where
   -- An error, by what a crash leaves until then.
   pub stopped : {old new : D} {before after : StoreState} {way : WriteKind} {Makes : Archive → Archive → Type 0} {result : Result (Unit {0}) StoreRefusal} (why : StoreRefusal) → result ≡ Err why
       → ((a b : Archive) (cache : List ℕ) → IsStoreWith before cache a (g.content old) → before.root.sequence + 1 < 2 ^ 64 → Makes a b → LeavesOnly g old new (RecoversOneOf cache a (cache_by way cache) b))
-      → after ≡ before → UnlessFailed {T = Unit {0}} (Err why) (StaysBy way g old new) → UndamagedBy {T = Unit {0}} way before (Err why) (g.content old) → DamageBy why (λ (file : FileName) (at : ℕ). IsDamageIn before file at (g.content old)) → RoseIf (result ≡ Err DiskFault) (g.faults old) (g.faults new) → ReadsByKind way (g.reads old) (g.reads new) → RunsBetween g old new
+      → after ≡ before → UnlessFailed {T = Unit {0}} (Err why) (StaysBy way g old new) → UndamagedBy {T = Unit {0}} way before (Err why) (g.content old) → DamageBy why (λ (file : FileName) (at : ℕ). IsDamageIn before file at (g.content old)) → RoseIf (result ≡ Err DiskFault) (g.faults old) (g.faults new) → ReadsByKind way (g.reads old) (g.reads new) → BeginsRootIn g (1 - before.slot) old new
       → ChangesStore g old new before after way Makes result
-  stopped {old} {new} {before} {after} {way} {Makes} {result} why is run same still sound told cause count crash_between = subst (λ (r : Result (Unit {0}) StoreRefusal). ChangesStore g old new before after way Makes r) (sym is) (record {
+  stopped {old} {new} {before} {after} {way} {Makes} {result} why is run same still sound told cause count root = subst (λ (r : Result (Unit {0}) StoreRefusal). ChangesStore g old new before after way Makes r) (sym is) (record {
     crash = run;
     done = λ a b cache store room made. tt;
     settled = tt;
@@ -92,7 +93,7 @@ module _ {D : Type 0} {g : Disk D} where
     cause = subst (λ (r : Result (Unit {0}) StoreRefusal). RoseIf (r ≡ Err DiskFault) (g.faults old) (g.faults new)) is cause;
     count = count;
     rooted = tt;
-    crash_between = crash_between;
+    crash_root = root;
     damage = told;
   })
 
@@ -102,7 +103,7 @@ module _ {D : Type 0} {g : Disk D} where
   unstarted {disk} {before} {after} {way} {Makes} {result} now same is =
       stopped NoMemory is (λ a b cache store room made. started g disk (RecoversOneOf cache a (cache_by way cache) b) (λ image left. stands_now before cache (cache_by way cache) a b (g.content disk) image store (now image left))) same
       (still way) (sound way) tt (record { later = omega arith; failed = λ fault. absurd (cc (sym is ∙ fault)); kept = λ never. refl }) (count way)
-      (looks_between g disk disk (started g disk (Image (g.content disk)) now)) where
+      (None, looks_one g (1 - before.slot) None disk disk (started g disk (Image (g.content disk)) now)) where
         still : (way : WriteKind) → StaysBy way g disk disk
         still Appends = refl
         still Renews = reads_none g disk now
@@ -119,7 +120,7 @@ module _ {D : Type 0} {g : Disk D} where
     -- Planning failed.
     pub unplanned : {Makes : Archive → Archive → Type 0} {result : Result (Unit {0}) StoreRefusal} (why : StoreRefusal) → result ≡ Err why → PlansUndamaged {T = Unit {0}} before (Err why) (g.content old) → DamageBy why (λ (file : FileName) (at : ℕ). IsDamageIn before file at (g.content old)) → RoseIf (result ≡ Err DiskFault) (g.faults old) (g.faults mid) → g.reads old ≤ g.reads mid
         → ChangesStore g old mid before before Renews Makes result
-    unplanned why is sound told cause count = stopped why is (λ a b cache store room made. read_leaves only before cache a b store) refl (unless_any why only) sound told cause count (looks_between g old mid only.crash)
+    unplanned why is sound told cause count = stopped why is (λ a b cache store room made. read_leaves only before cache a b store) refl (unless_any why only) sound told cause count (None, looks_one g (1 - before.slot) None old mid only.crash)
 
     -- What was planned was carried out, or wasn't.
     pub planned : {new : D} {after : StoreState} {Makes : Archive → Archive → Type 0} {result : Result (Unit {0}) StoreRefusal} (plans : Planning) (next : ℕ) → ((a b : Archive) (cache : List ℕ) → IsStoreWith before cache a (g.content old) → Makes a b → PlansArchive before.root cache a b plans next)
@@ -139,7 +140,7 @@ module _ {D : Type 0} {g : Disk D} where
       cause = subst (λ (n : ℕ). RoseIf (result ≡ Err DiskFault) n (g.faults new)) steady carried.cause;
       count = (let more = carried.count in omega (arith, fewest, more));
       rooted = rooted_since result after.slot (spelling after.root) (g.content old) (g.content mid) (g.content new) only.same carried.rooted;
-      crash_between = read_between g old mid new only.same only.crash carried.crash_between;
+      crash_root = read_begins g (1 - before.slot) old mid new (omega arith) only.same only.crash carried.crash_root;
       damage = subst (λ (k : Option Content). IfDamaged result (λ (file : FileName) (at : ℕ). IsDamageIn before file at k)) (content_is (g.content old) (g.content mid) only.same) carried.damage;
     } where
       still : (cache : List ℕ) (a : Archive) → IsStoreWith before cache a (g.content old) → IsStoreWith before cache a (g.content mid)
@@ -177,7 +178,7 @@ module _ {D : Type 0} {g : Disk D} {old new : D} {w v : StoreState} {free next :
         cause = record { later = carried.cause.later; failed = λ fault. absurd (cc fault); kept = λ never. carried.cause.kept (λ wrong. wrong) };
         count = fewest;
         rooted = carried.rooted;
-        crash_between = carried.crash_between;
+        crash_root = (Some (spelling carried.crash_root.0), carried.crash_root.2);
         damage = tt;
       })) where
         Changed : StoreState → Type 0
@@ -190,7 +191,7 @@ module _ {D : Type 0} {g : Disk D} {old new : D} {w v : StoreState} {free next :
   carried_failed {refused = rewrite.DiskFault} is carries =
       let carried = by_views same free_is plans_are carries in
       stopped DiskFault refl (λ a b cache store room made. carried_leaves v cache a b p next (g.content old) store (made cache store) g old new carried.crash) refl tt (λ a cache store. tt) tt
-      (record { later = carried.cause.later; failed = λ fault. carried.cause.failed tt; kept = λ never. absurd (never refl) }) fewest carried.crash_between
+      (record { later = carried.cause.later; failed = λ fault. carried.cause.failed tt; kept = λ never. absurd (never refl) }) fewest (Some (spelling carried.crash_root.0), carried.crash_root.2)
 
   -- A range was short.
   pub carried_short : {refused : RewriteRefusal} {file : FileName} {at : ℕ} → refused ≡ rewrite.Short file at → IsReadyPlan v.root p.plans next → CarriesOut g old new w.root free plans next (Err refused)

@@ -169,6 +169,6 @@ changes_so {g = g} {old = old} {before = before} so changes = record {
   cause = changes.cause;
   count = changes.count;
   rooted = changes.rooted;
-  crash_between = changes.crash_between;
+  crash_root = changes.crash_root;
   damage = changes.damage;
 }

@@ -27,7 +27,8 @@ use Rattle.epoch_file.specs.Appending.{front_at, appended, entry_of}
 use Rattle.root_slots.specs.declared.root.Place.{Place}
 use Rattle.root_slots.specs.declared.root.Root.{Root}
 use Rattle.root_slots.specs.RootName.{root_name}
-use Rattle.root_slots.specs.Between.{RunsBetween, joined_between}
+use Rattle.root_slots.specs.OneRoot.{BeginsRootIn, RunsOneRoot}
+use Rattle.root_slots.proofs.OneRoots.{joined_one}
 use Rattle.root_slots.specs.Sizes.{sequence-spelling}
 use Rattle.root_slots.specs.Slots.{HasNewRoot, HasRootSize, with_root}
 use Rattle.root_slots.specs.Valid.{IsRoot, RootFits, no_place}
@@ -41,7 +42,7 @@ use Rattle.root_change.proofs.Changes.{text_named, text_unnamed, part_measure, p
 use Rattle.root_change.proofs.Copies.{none_added, wrote_added}
 use Rattle.root_change.proofs.Drops.{not_both, true_or_false, named, named_map, named_epoch}
 use Rattle.root_change.proofs.Grown.{epoch_no_cache, map_no_cache, epoch_isnt_root, map_isnt_root, epoch_isnt_map, epoch_is_named, map_is_named}
-use Rattle.root_change.proofs.Phases.{beside_between, beside_went}
+use Rattle.root_change.proofs.Phases.{beside_one, beside_went}
 use Rattle.root_change.proofs.Roots.{equal_or_not, same_test, other_test, set_here, set_elsewhere}
 use Rattle.root_change.proofs.Sizes.{end_at_most, end_respects}
 use Rattle.store_planning.specs.declared.next.NextPlace.{NextPlace}
@@ -381,7 +382,7 @@ pub stopped_leaves : {D : Type 0} (g : Disk D) (root : Root) (p : NextPlace) (e 
 stopped_leaves g root p e free disk d1 run parts own =
     weaker g disk d1 (RecoversPartsBy root parts) (RecoversEntered root p e parts) (writing_by free root root parts parts g disk d1 own run) (λ image stands. inl stands)
 
--- The bytes of the root file between its gates and its bodies, while files are written beside a root and it is replaced.
-pub replaced_between : {D : Type 0} (g : Disk D) (root : Root) (disk mid new : D) → RunsBeside g (bounds_of root) disk mid → RunsBetween g mid new → RunsBetween g disk new
-replaced_between g root disk mid new run replaces =
-    joined_between g disk mid new (beside_between g root disk mid run) (beside_went root (g.content disk) (g.content mid) run.told) replaces
+-- At most one root comes while files are written beside a root and it is replaced.
+pub replaced_root : {D : Type 0} (g : Disk D) (root : Root) (slot : ℕ) (body : List ℕ) (disk mid new : D) → slot < 2 → RunsBeside g (bounds_of root) disk mid → RunsOneRoot g slot (Some body) mid new → BeginsRootIn g slot disk new
+replaced_root g root slot body disk mid new low run replaces =
+    (Some body, joined_one g slot (Some body) disk mid new low (beside_one g root slot (Some body) disk mid run) (beside_went root slot (Some body) (g.content disk) (g.content mid) run.told) replaces)

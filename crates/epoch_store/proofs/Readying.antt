@@ -4,17 +4,19 @@ use Rattle.std.proofs.Common.{◌∙◌, sym, ap, subst, inl, inr, arith, length
 use Rattle.std.proofs.lemmas.List.{length-take-le, take-append-le, take_at, drop_at, drop-drop}
 use Rattle.disk_model.specs.declared.disk.Disk.{Ghosts as Disk}
 use Rattle.disk_model.specs.Disk.{File, Files, Kept, Content, Image, BothTold, WhereTold, Unchanged, MaySurvive, Within, exact, bytes_of, overlay, ReadsFit}
-use Rattle.disk_model.specs.Laws.{SameOutside, overlay-torn, overlay-size, overlay-inside, MaySurvive-exact, MaySurvive-Within}
+use Rattle.disk_model.specs.Laws.{SameOutside, TornFile, overlay-torn, overlay-size, overlay-inside, MaySurvive-exact, MaySurvive-Within}
 use Rattle.disk_model.specs.Moments.{LeavesOnly, weaker}
-use Rattle.disk_model.specs.Synced.{WritingLeaves, IsWritten, IsSettled}
+use Rattle.disk_model.specs.Synced.{WritingLeaves, IsWritten, IsSettled, writing_inside}
 use Rattle.disk_model.specs.Tells.{told_weaker, told_where}
-use Rattle.root_slots.specs.Between.{BetweenStays, RunsBetween, WentBetween, crash_between, between_writing, joined_between, looks_between, went_settled, went_then, went_unchanged, went_written}
+use Rattle.root_slots.specs.OneRoot.{BeginsRootIn, HasOneBody, HasOneRoot, OneRootStays, RunsOneRoot, WentOneRoot}
+use Rattle.root_slots.proofs.OneRoots.{both_same, has_same, joined_one, looks_one, one_settled, one_unchanged, torn_body, torn_shut}
+use Rattle.root_slots.proofs.Phases.{body_written}
 use Rattle.root_slots.specs.RootName.{root_name}
-use Rattle.root_slots.specs.Each.{IfThere, EachRoot, part_stays, each_writing, each_written}
-use Rattle.root_slots.specs.Slots.{HasRootSize, IsGateOpen, gate, body_offset, body_at, with_root, Current, Ready}
+use Rattle.root_slots.specs.Each.{IfThere, EachRoot, part_stays, each_writing, each_written, settled_file}
+use Rattle.root_slots.specs.Slots.{AreBoth, HasRootSize, IsGateOpen, gate, body_offset, body_at, with_root, Current, Ready}
 use Rattle.root_change.proofs.Roots.{equal_or_not}
 use Rattle.epoch_store.specs.Opens.{IsOnlySynced}
-use Rattle.epoch_store.specs.Settling.{RootIsSettled, StaysCurrent, IsReadied, KeepsSlots, ReadiesSlot}
+use Rattle.epoch_store.specs.Settling.{IsSettledRoot, RootIsSettled, StaysCurrent, IsReadied, KeepsSlots, ReadiesSlot, SlotsKept}
 
 -- The other slot of the other slot.
 back : (slot : ℕ) → slot < 2 → slot ≡ 1 - (1 - slot)
@@ -199,30 +201,97 @@ slots_written slot body (Some k) (Some m) (Some n) same shut written =
       elsewhere = λ other apart. written.elsewhere other apart ∙ ap (λ (kept : Kept). kept.seen) (same other);
     }
 
--- The size of the root file of a disk that is unchanged.
-size_still : (k m : Option Content) → BothTold Unchanged k m → WhereTold HasRootSize k → WhereTold HasRootSize m
-size_still k m same size = told_where Unchanged HasRootSize HasRootSize k m (λ a b is told kept was. ap (λ (it : Kept). length (bytes_of it.seen)) (kept root_name) ∙ was) same size
+-- A root file whose other slot was made ready has no new root.
+has_kept : (slot : ℕ) (body a b : List ℕ) → length body ≡ 1536 → Current slot body a → KeepsSlots slot body a b → HasOneBody (1 - slot) None a b
+has_kept slot body a b whole current kept = elim (equal_or_not (gate a (1 - slot)) 1) [
+  | inl is ↦ subst (HasOneBody (1 - slot) None a) (sym (kept.opened is)) (has_same (1 - slot) None a)
+  | inr isnt ↦ subst (HasOneBody (1 - slot) None a) (sym (kept.filled isnt)) filled
+] where
+  size : length a ≡ 4096
+  size = current.size
 
--- The bytes between the gates and the bodies, while the other slot is filled, and then.
-pub fill_went : (slot : ℕ) → slot < 2 → (body : List ℕ) (k m n : Option Content) → length body ≡ 1536 → ReadsFit m → WhereTold HasRootSize k → BothTold Unchanged k m → BothTold (IsWritten root_name (body_offset (1 - slot)) body) m n → BothTold WentBetween k n
-fill_went slot low body k m n whole fit size same written =
-    went_then k m n (went_unchanged k m same)
-    (went_written (body_offset (1 - slot)) body m n (inl (omega arith)) (omega (arith, whole, low)) fit (size_still k m same size) written)
+  low : slot < 2
+  low = current.in_range
 
-pub fill_between : {D : Type 0} (g : Disk D) (slot : ℕ) → slot < 2 → (disk mid new : D) → ReadsFit (g.content mid) → WhereTold HasRootSize (g.content disk) → BothTold Unchanged (g.content disk) (g.content mid) → LeavesOnly g disk mid (Image (g.content disk))
-    → LeavesOnly g mid new (WritingLeaves root_name (body_offset (1 - slot)) 1536 (g.content mid)) → RunsBetween g disk new
-fill_between g slot low disk mid new fit size same looks writes =
-    joined_between g disk mid new (looks_between g disk mid looks) (went_unchanged (g.content disk) (g.content mid) same)
-    (weaker g mid new (WritingLeaves root_name (body_offset (1 - slot)) 1536 (g.content mid)) (BetweenStays (g.content mid)) writes
-    (λ image. between_writing (body_offset (1 - slot)) 1536 (g.content mid) image (inl (omega arith)) (omega arith) (omega (arith, low)) fit (size_still (g.content disk) (g.content mid) same size)))
+  torn : SameOutside (body_offset (1 - slot)) 1536 a (overlay (body_offset (1 - slot)) body a)
+  torn = subst (λ (n : ℕ). SameOutside (body_offset (1 - slot)) n a (overlay (body_offset (1 - slot)) body a)) whole (overlay-torn (body_offset (1 - slot)) body a (omega (arith, size, whole, low)))
 
--- The same while files are read, and in what comes after it.
-pub read_between : {D : Type 0} (g : Disk D) (disk mid new : D) → BothTold Unchanged (g.content disk) (g.content mid) → LeavesOnly g disk mid (Image (g.content disk)) → RunsBetween g mid new → RunsBetween g disk new
-read_between g disk mid new same looks run =
-    joined_between g disk mid new (looks_between g disk mid looks) (went_unchanged (g.content disk) (g.content mid) same) run
+  filled : HasOneBody (1 - slot) None a (overlay (body_offset (1 - slot)) body a)
+  filled = record {
+    outside = torn_body (1 - slot) a (overlay (body_offset (1 - slot)) body a) torn;
+    body = inr (inr (body_written (1 - slot) body a whole (omega (arith, size, low)) ∙ (sym current.holds ∙ ap (body_at a) (back slot low))));
+  }
 
--- While a disk is synced, and in what comes after it.
-pub synced_between : {D : Type 0} (g : Disk D) (disk mid new : D) → ReadsFit (g.content disk) → BothTold IsOnlySynced (g.content disk) (g.content mid) → LeavesOnly g disk mid (Image (g.content disk)) → RunsBetween g mid new → RunsBetween g disk new
-synced_between g disk mid new fit synced looks run =
-    joined_between g disk mid new (looks_between g disk mid looks)
-    (told_weaker IsOnlySynced WentBetween (g.content disk) (g.content mid) (λ a b is told one. went_settled a b (λ k same. fit k (is ∙ same)) one.settled (ap (λ (f : File). crash_between (bytes_of f)) (one.seen root_name))) synced) run
+-- The same of disks that may tell their content.
+pub kept_one : (slot : ℕ) (body : List ℕ) (k m : Option Content) → length body ≡ 1536 → ReadsFit k → WhereTold (λ (c : Content). IfThere (Current slot body) (c root_name).seen) k → BothTold (SlotsKept slot body) k m → WhereTold IsSettled m → BothTold (WentOneRoot (1 - slot) None) k m
+kept_one slot body None None whole fit current kept settled = tt
+kept_one slot body None (Some m) whole fit current kept settled = absurd kept
+kept_one slot body (Some k) None whole fit current kept settled = absurd kept
+kept_one slot body (Some k) (Some m) whole fit current kept settled = one_settled (1 - slot) None k m fit settled (both (k root_name).seen (m root_name).seen current kept) where
+  both : (a b : File) → IfThere (Current slot body) a → KeepsSlots slot body (bytes_of a) (bytes_of b) → AreBoth (HasOneBody (1 - slot) None) a b
+  both None b there kept = absurd there
+  both (Some a) None there kept = let size = slots_size slot body a [] there.in_range whole there.size kept in absurd (omega (arith, size))
+  both (Some a) (Some b) there kept = has_kept slot body a b whole there kept
+
+pub filled_went : (slot : ℕ) (body : List ℕ) (k m n : Option Content) → length body ≡ 1536 → ReadsFit k → WhereTold (IsSettledRoot slot body) k → BothTold Unchanged k m → WhereTold (IsGateOpen (1 - slot) false) k → BothTold (IsWritten root_name (body_offset (1 - slot)) body) m n → BothTold (WentOneRoot (1 - slot) None) k n
+filled_went slot body k m n whole fit files_are same shut written =
+    kept_one slot body k n whole fit (current_told k files_are)
+    (told_weaker (ReadiesSlot slot body) (SlotsKept slot body) k n (λ a b is told one. one.slots) (slots_written slot body k m n same shut written))
+    (settled_told m n written) where
+      current_told : (k : Option Content) → WhereTold (IsSettledRoot slot body) k → WhereTold (λ (c : Content). IfThere (Current slot body) (c root_name).seen) k
+      current_told None is = tt
+      current_told (Some k) is = is.current
+
+      settled_told : (m n : Option Content) → BothTold (IsWritten root_name (body_offset (1 - slot)) body) m n → WhereTold IsSettled n
+      settled_told None None written = tt
+      settled_told None (Some n) written = absurd written
+      settled_told (Some m) None written = absurd written
+      settled_told (Some m) (Some n) written = written.settled
+
+-- A disk whose root file is settled stays so while nothing changes.
+pub still_root : (slot : ℕ) (body : List ℕ) (k m : Option Content) → BothTold Unchanged k m → WhereTold (IsSettledRoot slot body) k → WhereTold (IsSettledRoot slot body) m
+still_root slot body k m same was = told_where Unchanged (IsSettledRoot slot body) (IsSettledRoot slot body) k m (λ a b is told kept had. record {
+  in_range = had.in_range;
+  settled = λ other. subst (λ (it : Kept). Within it.sure (exact it.seen)) (sym (kept other)) (had.settled other);
+  current = subst (λ (it : Kept). IfThere (Current slot body) it.seen) (sym (kept root_name)) had.current;
+}) same was
+
+-- No root comes while the other slot is filled.
+filling_one : (slot : ℕ) (body : List ℕ) (k m : Option Content) (image : Files) → slot < 2 → ReadsFit m → WhereTold HasRootSize k → WhereTold (IsSettledRoot slot body) k → BothTold Unchanged k m → WhereTold (IsGateOpen (1 - slot) false) k → WritingLeaves root_name (body_offset (1 - slot)) 1536 m image → OneRootStays (1 - slot) None m image
+filling_one slot body None None image low fit size files_are same shut writing = tt
+filling_one slot body None (Some m) image low fit size files_are same shut writing = absurd same
+filling_one slot body (Some k) None image low fit size files_are same shut writing = tt
+filling_one slot body (Some k) (Some m) image low fit size files_are same shut writing =
+    let long : length (bytes_of (m root_name).seen) ≡ 4096 = ap (λ (kept : Kept). length (bytes_of kept.seen)) (same root_name) ∙ size in
+    let origin = writing_inside root_name (body_offset (1 - slot)) 1536 m image fit (omega (arith, long, low)) (omega arith) writing in
+    let is : origin.file ≡ (k root_name).seen = settled_file k root_name origin.file files_are.settled (subst (λ (kept : Kept). MaySurvive kept.sure origin.file) (same root_name) origin.fits) in
+    record { from = origin.file; fits = origin.fits; by = both origin.file (image root_name) (λ open_. shut (ap (λ (f : File). gate (bytes_of f) (1 - slot)) (sym is) ∙ open_)) origin.torn } where
+      both : (a b : File) → gate (bytes_of a) (1 - slot) ≢ 1 → TornFile (body_offset (1 - slot)) 1536 a b → AreBoth (HasOneRoot (1 - slot) None) a b
+      both None None closed torn = tt
+      both None (Some b) closed torn = absurd torn
+      both (Some a) None closed torn = absurd torn
+      both (Some a) (Some b) closed torn = torn_shut (1 - slot) None a b (omega arith) closed torn
+
+module _ {D : Type 0} (g : Disk D) where
+  -- While files are read, and in what comes after it.
+  pub read_root : (slot : ℕ) (came : Option (List ℕ)) (disk mid new : D) → slot < 2 → BothTold Unchanged (g.content disk) (g.content mid) → LeavesOnly g disk mid (Image (g.content disk)) → RunsOneRoot g slot came mid new → RunsOneRoot g slot came disk new
+  read_root slot came disk mid new low same looks run =
+      joined_one g slot came disk mid new low (looks_one g slot came disk mid looks) (one_unchanged slot came (g.content disk) (g.content mid) same) run
+
+  pub read_begins : (slot : ℕ) (disk mid new : D) → slot < 2 → BothTold Unchanged (g.content disk) (g.content mid) → LeavesOnly g disk mid (Image (g.content disk)) → BeginsRootIn g slot mid new → BeginsRootIn g slot disk new
+  read_begins slot disk mid new low same looks run = (run.0, read_root slot run.0 disk mid new low same looks run.1)
+
+  -- While a disk is synced, and in what comes after it.
+  pub synced_root : (slot : ℕ) (came : Option (List ℕ)) (disk mid new : D) → slot < 2 → ReadsFit (g.content disk) → BothTold IsOnlySynced (g.content disk) (g.content mid) → LeavesOnly g disk mid (Image (g.content disk)) → RunsOneRoot g slot came mid new → RunsOneRoot g slot came disk new
+  synced_root slot came disk mid new low fit synced looks run =
+      joined_one g slot came disk mid new low (looks_one g slot came disk mid looks)
+      (told_weaker IsOnlySynced (WentOneRoot slot came) (g.content disk) (g.content mid) (λ a b is told one.
+      one_settled slot came a b (λ k same. fit k (is ∙ same)) one.settled (subst (λ (f : File). AreBoth (HasOneBody slot came) (a root_name).seen f) (sym (one.seen root_name)) (both_same slot came (a root_name).seen))) synced) run
+
+  -- While the other slot is filled.
+  pub fill_root : (slot : ℕ) (body : List ℕ) → slot < 2 → (disk mid new : D) → ReadsFit (g.content mid) → WhereTold HasRootSize (g.content disk) → WhereTold (IsSettledRoot slot body) (g.content disk) → BothTold Unchanged (g.content disk) (g.content mid) → WhereTold (IsGateOpen (1 - slot) false) (g.content disk)
+      → LeavesOnly g disk mid (Image (g.content disk)) → LeavesOnly g mid new (WritingLeaves root_name (body_offset (1 - slot)) 1536 (g.content mid)) → RunsOneRoot g (1 - slot) None disk new
+  fill_root slot body low disk mid new fit size files_are same shut looks writes =
+      read_root (1 - slot) None disk mid new (omega arith) same looks
+      (weaker g mid new (WritingLeaves root_name (body_offset (1 - slot)) 1536 (g.content mid)) (OneRootStays (1 - slot) None (g.content mid)) writes
+      (λ image. filling_one slot body (g.content disk) (g.content mid) image low fit size files_are same shut))

@@ -40,7 +40,7 @@ use Rattle.store_finding.specs.Openings.{archive_of, cache_in, HasMap, OpenedRec
 use Rattle.epoch_store.specs.Opens.{RecoversOfWith, AllRecoverWith, ReadsWith, OpensFiles, OpensNone, IsOpenedIn, IsWant, IsOnlySynced, SyncsBy, OnSynced}
 use Rattle.epoch_store.specs.Reads.{HasTexts}
 use Rattle.store_finding.specs.Recovery.{parts_of, RecoversWith, RecoversArchiveBy}
-use Rattle.epoch_store.specs.Settling.{IsFoundDisk, FoundOn, KeepsSlots, IsSettledBy}
+use Rattle.epoch_store.specs.Settling.{IsFoundDisk, IsSettledRoot, FoundOn, KeepsSlots, IsSettledBy}
 use Rattle.store_finding.specs.Kept.{StoreState, IsStoreWith, InEpochs, stored_after}
 use Rattle.epoch_store.specs.Commands.{StoreHasSizes}
 use Rattle.epoch_store.proofs.TextsOpened.{fronts-kept, texts-stand}
@@ -199,6 +199,14 @@ settled_since root slot k m n synced kept = record {
 
 pub opened_kept : (root : Root) (slot : ℕ) (k m n : Option Content) → BothTold IsOnlySynced k m → BothTold (IsSettledBy root slot) m n → BothTold (IsSettledBy root slot) k n
 opened_kept root slot k m n synced kept = told_then IsOnlySynced (IsSettledBy root slot) (IsSettledBy root slot) k m n (λ a b c is told one two. settled_since root slot a b c one two) synced kept
+
+-- The current root that was found, once the disk is synced.
+pub found_root : (found : Found) (k m : Option Content) → WhereTold (λ c. IsFoundIn (as_read c) found) k → BothTold IsOnlySynced k m → WhereTold (IsSettledRoot (slot_number found.slot) (spelling found.root)) m
+found_root found k m is synced = told_where IsOnlySynced (λ c. IsFoundIn (as_read c) found) (IsSettledRoot (slot_number found.slot) (spelling found.root)) k m (λ a b before after one had. record {
+  in_range = had.root.in_range;
+  settled = one.settled;
+  current = subst (IfThere (Current (slot_number found.slot) (spelling found.root))) (sym (one.seen root_name)) had.root.current;
+}) synced is
 
 pub opened_sizes : (found : Found) (k m n : Option Content) → WhereTold (λ c. IsFoundIn (as_read c) found) k → BothTold IsOnlySynced k m → BothTold (IsSettledBy found.root (slot_number found.slot)) m n → WhereTold (StoreHasSizes (view_of found)) n
 opened_sizes found k m n is synced kept =

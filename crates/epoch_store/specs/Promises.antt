@@ -15,7 +15,7 @@ use Rattle.arch_model.specs.Delivery.{collision, new_epoch}
 use Rattle.arch_model.specs.declared.opening.OpenRefusal.{OpenRefusal}
 use Rattle.arch_model.specs.declared.opening.OpenRefusal.TheVariants as opening
 use Rattle.root_slots.specs.declared.root.Root.{Root}
-use Rattle.root_slots.specs.Between.{RunsBetween}
+use Rattle.root_slots.specs.OneRoot.{BeginsRootIn, RunsOneRoot}
 use Rattle.root_slots.specs.Slots.{HasFirstRoot, HasNewRoot}
 use Rattle.root_slots.specs.Spelling.{spelling}
 use Rattle.epoch_file.specs.Runs.{OnlyReads}
@@ -55,6 +55,15 @@ pub record MakesArchive {D : Type 0} (g : Disk D) (old new : D) (config : Config
   pub rooted : OnOk result (WhereTold (HasFirstRoot (spelling (first_root_of config)))
       (g.content new))
 
+-- An opening begins no root: at each moment, also after a fault, all bytes of the root file are as before
+-- but those of one slot, and no new root comes there. After `Ok` that is the slot that isn't current.
+pub record OpensNoRoot {D : Type 0} (g : Disk D) (old new : D) (result : Result StoreState OpenRefusal)
+    : Type 0 where
+  pub slot : ℕ
+  pub in_range : slot < 2
+  pub other : IfOk result (λ (v : StoreState). slot ≡ 1 - v.slot)
+  pub crash : RunsOneRoot g slot None old new
+
 -- The archive on a disk is opened, with whatever cache. At each moment a crash leaves an archive
 -- that might have been there before. The answer is by the files as they read, and no archive is
 -- refused but for want of memory or a fault. Once the disk is synced, a crash leaves only the archive
@@ -77,8 +86,7 @@ pub record OpensArchive {D : Type 0} (g : Disk D) (old new : D)
       (g.content new))
   pub sizes : IfOk result (λ (v : StoreState). WhereTold (StoreHasSizes v) (g.content new))
   pub cause : RoseIf (result ≡ Err opening.DiskFault) (g.faults old) (g.faults new)
-  -- At each moment the bytes of the root file between its gates and its bodies are as before.
-  pub crash_between : RunsBetween g old new
+  pub crash_root : OpensNoRoot g old new result
 
 -- How a command changes the files of an archive: it appends to them, or writes some of them anew.
 pub data WriteKind : Type 0 where
@@ -168,7 +176,8 @@ pub record ChangesStore {D : Type 0} (g : Disk D) (old new : D) (before after : 
   -- The root file has the new root in its slot, whose gate is open, and is otherwise as it was.
   pub rooted : OnOk result
       (BothTold (HasNewRoot after.slot (spelling after.root)) (g.content old) (g.content new))
-  -- At each moment its bytes between the gates and the bodies are as before.
-  pub crash_between : RunsBetween g old new
+  -- At each moment, also after a fault, all its bytes are as before but those of that slot, into which at
+  -- most one new root comes.
+  pub crash_root : BeginsRootIn g (1 - before.slot) old new
   pub damage : IfDamaged result
       (λ (file : FileName) (at : ℕ). IsDamageIn before file at (g.content old))

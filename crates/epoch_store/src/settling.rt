@@ -1,16 +1,16 @@
 //! Settles the disk of an archive when it is opened.
 //! Writes the disk; syncs.
-ghost use Rattle.std.specs.Prelude.{◌-◌, OnOk};
+ghost use Rattle.std.specs.Prelude.{◌-◌, None, OnOk};
 ghost use Rattle.arch_base.specs.Counts.{HasCause};
 ghost use Rattle.disk_model.specs.Disk.{BothTold, WhereTold};
 ghost use Rattle.disk_model.specs.Moments.{LeavesOnly};
 ghost use Rattle.disk_model.specs.Synced.{IsSettled};
-ghost use Rattle.root_slots.specs.Between.{RunsBetween, WentBetween};
+ghost use Rattle.root_slots.specs.OneRoot.{RunsOneRoot, WentOneRoot};
 ghost use Rattle.root_slots.specs.Slots.{slot_number, HasRootSize};
 ghost use Rattle.root_slots.specs.Spelling.{spelling};
 ghost use Rattle.root_slots.specs.Valid.{IsRoot};
 ghost use Rattle.root_change.specs.Texts.{Texts, StandsFor, OnDisk};
-ghost use Rattle.epoch_store.specs.Settling.{RootIsSettled, StaysCurrent, IsReadied, ReadiesSlot, ToSettle, IsSwept};
+ghost use Rattle.epoch_store.specs.Settling.{IsSettledRoot, RootIsSettled, StaysCurrent, IsReadied, ReadiesSlot, ToSettle, IsSwept};
 
 use disk_model::{Disk, DiskFault, FileName};
 use root_change::tidy;
@@ -31,9 +31,13 @@ pub(crate) fn ready_other<D: Disk>(disk: &mut D, slot: Slot, root: &Root) -> Res
     // Whatever the root file holds, only the body of a shut slot is written.
     ensures readies { OnOk result (BothTold (ReadiesSlot (slot_number slot) (spelling root.now))
         (D.content disk.old) (D.content disk.new)) }
-    // The bytes of the root file between its gates and its bodies are as before.
-    ensures went { OnOk result (BothTold WentBetween (D.content disk.old) (D.content disk.new)) }
-    ensures crash_between { RunsBetween D.Disk disk.old disk.new }
+    // No root comes into the root file.
+    ensures went { WhereTold (IsSettledRoot (slot_number slot) (spelling root.now)) (D.content disk.old)
+        → OnOk result (BothTold (WentOneRoot (1 - slot_number slot) None) (D.content disk.old)
+        (D.content disk.new)) }
+    ensures crash_root { WhereTold (IsSettledRoot (slot_number slot) (spelling root.now))
+        (D.content disk.old)
+        → RunsOneRoot D.Disk (1 - slot_number slot) None disk.old disk.new }
     ensures cause { HasCause (D.faults disk.old) (D.faults disk.new) result }
 {
     let other = slot.other();
@@ -66,7 +70,9 @@ pub(crate) fn sweep<D: Disk>(
     ensures settled { OnOk result (WhereTold IsSettled (D.content disk.new)) }
     ensures swept { OnOk result (BothTold (IsSwept root.now (slot_number slot) names.now)
         (D.content disk.old) (D.content disk.new)) }
-    ensures crash_between { RunsBetween D.Disk disk.old disk.new }
+    ensures crash_root { WhereTold (IsSettledRoot (slot_number slot) (spelling root.now))
+        (D.content disk.old)
+        → RunsOneRoot D.Disk (1 - slot_number slot) None disk.old disk.new }
     ensures cause { HasCause (D.faults disk.old) (D.faults disk.new) result }
 {
     ready_other(disk, slot, root)?;

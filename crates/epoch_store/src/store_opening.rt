@@ -1,6 +1,6 @@
 //! Opens an archive: syncs, reads its files, and settles the disk.
 //! Writes the disk; syncs.
-ghost use Rattle.std.specs.Prelude.{◌≡◌, ◌≢◌, ◌-◌, Err, IfOk, OnOk};
+ghost use Rattle.std.specs.Prelude.{◌≡◌, ◌≢◌, ◌-◌, Err, IfOk, None, OnOk};
 ghost use Rattle.arch_base.specs.Counts.{Rose, RoseIf};
 ghost use Rattle.disk_model.specs.Disk.{Image, BothTold, WhereTold, Unchanged};
 ghost use Rattle.disk_model.specs.Moments.{LeavesOnly};
@@ -9,8 +9,9 @@ ghost use Rattle.disk_model.specs.Synced.{IsSettled};
 ghost use Rattle.arch_model.specs.Archives.{Archive};
 ghost use Rattle.arch_model.specs.declared.opening.OpenRefusal.{OpenRefusal};
 ghost use Rattle.epoch_file.specs.Runs.{OnlyReads};
-ghost use Rattle.root_slots.specs.Between.{RunsBetween};
+ghost use Rattle.root_slots.specs.OneRoot.{RunsOneRoot};
 ghost use Rattle.root_slots.specs.Slots.{slot_number, HasRootSize};
+ghost use Rattle.root_slots.specs.Spelling.{spelling};
 ghost use Rattle.root_slots.specs.Valid.{IsRoot};
 ghost use Rattle.store_finding.specs.Listing.{AreAllNames};
 ghost use Rattle.root_change.specs.Texts.{Texts, StandsFor, OnDisk};
@@ -20,7 +21,7 @@ ghost use Rattle.store_finding.specs.Finding.{FindsStore};
 ghost use Rattle.store_finding.specs.Indexes.{IndexesStored};
 ghost use Rattle.store_finding.specs.Joined.{AreBefore};
 ghost use Rattle.epoch_store.specs.Promises.{OpensArchive};
-ghost use Rattle.epoch_store.specs.Settling.{FoundOn, IsSettledBy};
+ghost use Rattle.epoch_store.specs.Settling.{FoundOn, IsSettledBy, IsSettledRoot};
 ghost use Rattle.epoch_store.specs.Reads.{HasTexts};
 ghost use Rattle.epoch_store.specs.Opens.{store_of, OpensFiles, OpensWell, SyncsBy, RefusesBefore};
 
@@ -79,7 +80,9 @@ fn settle<D: Disk>(alloc: Global, disk: &mut D, slot: Slot, root: &Root) -> Resu
     ensures settled { OnOk result (WhereTold IsSettled (D.content disk.new)) }
     ensures kept { OnOk result (BothTold (IsSettledBy root.now (slot_number slot)) (D.content disk.old)
         (D.content disk.new)) }
-    ensures crash_between { RunsBetween D.Disk disk.old disk.new }
+    ensures crash_root { WhereTold (IsSettledRoot (slot_number slot) (spelling root.now))
+        (D.content disk.old)
+        → RunsOneRoot D.Disk (1 - slot_number slot) None disk.old disk.new }
     ensures well { OpensWell result }
     ensures unchanged { result ≡ Err OpenRefusal.NoMemory
         → BothTold Unchanged (D.content disk.old) (D.content disk.new) }

@@ -11,7 +11,7 @@ ghost use Rattle.disk_model.specs.Sizes.{greatest_epoch};
 ghost use Rattle.disk_model.specs.Synced.{IsSettled};
 ghost use Rattle.mail_commits.specs.Ids.{text_ids_of};
 ghost use Rattle.epoch_file.specs.Appending.{written_of};
-ghost use Rattle.root_slots.specs.Between.{RunsBetween};
+ghost use Rattle.root_slots.specs.OneRoot.{BeginsRootIn};
 ghost use Rattle.root_slots.specs.Slots.{slot_number, HasNewRoot};
 ghost use Rattle.root_slots.specs.Spelling.{spelling};
 ghost use Rattle.root_slots.specs.Valid.{IsRoot};
@@ -177,7 +177,7 @@ pub(crate) fn write_entry<D: Disk>(
     ensures count { D.reads disk.new ≡ D.reads disk.old }
     ensures rooted { IfOk result (λ made. BothTold (HasNewRoot (slot_number free) (spelling made.0))
         (D.content disk.old) (D.content disk.new)) }
-    ensures crash_between { RunsBetween D.Disk disk.old disk.new }
+    ensures crash_root { BeginsRootIn D.Disk (slot_number free) disk.old disk.new }
 {
     root_fits(root);
     let written = write_files(alloc, disk, root, place, entry)?;

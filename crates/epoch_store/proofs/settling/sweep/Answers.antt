@@ -1,12 +1,12 @@
 -- The other slot is made ready, and the files are tidied.
-use Rattle.std.proofs.Common.{◌-◌}
+use Rattle.std.proofs.Common.{◌-◌, None, arith}
 use Rattle.std.proofs.lemmas.Result.{on_ok_weaker}
 use Rattle.disk_model.specs.Moments.{weaker, joined}
-use Rattle.root_slots.specs.Between.{joined_between}
+use Rattle.root_slots.proofs.OneRoots.{joined_one}
 use Rattle.root_slots.specs.Slots.{slot_number}
 use Rattle.root_slots.specs.Spelling.{spelling}
 use Rattle.root_change.specs.Texts.{StandsFor}
-use Rattle.root_change.proofs.Phases.{beside_between}
+use Rattle.root_change.proofs.Phases.{beside_one}
 use Rattle.epoch_store.specs.Settling.{StaysCurrent}
 use Rattle.epoch_store.proofs.Settles.{to_settle_rests, readying_stands, tidy_ready, swept_told}
 use Rattle.epoch_store.proofs.settling.sweep.Goals as goal
@@ -49,9 +49,10 @@ returns-clause-swept g c =
     let content = g.D.Disk.content in
     on_ok_weaker c.tidy.result (swept_told c.args.root.now (slot_number c.args.slot) c.args.names.now (content c.args.disk.now) (content c.ready_other.new.disk) (content c.tidy.new.disk) c.in_ok-ready_other.ensures.readies) c.tidy.ensures.tidied
 
-pub returns-clause-crash_between : goal.returns-clause-crash_between
-returns-clause-crash_between g c =
+pub returns-clause-crash_root : goal.returns-clause-crash_root
+returns-clause-crash_root g c = λ files_are.
     let disk = c.args.disk.now in
     let d1 = c.ready_other.new.disk in
-    joined_between g.D.Disk disk d1 c.tidy.new.disk c.ready_other.ensures.crash_between c.in_ok-ready_other.ensures.went
-    (beside_between g.D.Disk c.args.root.now d1 c.tidy.new.disk c.tidy.ensures.crash_beside)
+    let free = 1 - slot_number c.args.slot in
+    joined_one g.D.Disk free None disk d1 c.tidy.new.disk (omega arith) (c.ready_other.ensures.crash_root files_are) (c.in_ok-ready_other.ensures.went files_are)
+    (beside_one g.D.Disk c.args.root.now free None d1 c.tidy.new.disk c.tidy.ensures.crash_beside)

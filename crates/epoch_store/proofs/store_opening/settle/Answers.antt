@@ -1,10 +1,12 @@
 -- What is left while the disk is settled, and what is there then.
+use Rattle.std.proofs.Common.{◌-◌, None, arith}
 use Rattle.disk_model.specs.Disk.{Image}
 use Rattle.disk_model.specs.Moments.{weaker}
-use Rattle.root_slots.specs.Between.{looks_between}
+use Rattle.root_slots.proofs.OneRoots.{looks_one}
 use Rattle.root_slots.specs.Slots.{slot_number}
+use Rattle.root_slots.specs.Spelling.{spelling}
 use Rattle.root_change.specs.Texts.{StandsFor}
-use Rattle.epoch_store.proofs.Readying.{read_between}
+use Rattle.epoch_store.proofs.Readying.{read_root, still_root}
 use Rattle.epoch_store.proofs.Settles.{found_image, listed_to_settle, settling_leaves, settled_told}
 use Rattle.epoch_store.proofs.store_opening.settle.Goals as goal
 
@@ -37,13 +39,17 @@ pub returns-in-Ok-sweep-clause-kept : goal.returns-in-Ok-sweep-clause-kept
 returns-in-Ok-sweep-clause-kept g c =
     settled_told c.args.root.now (slot_number c.args.slot) c.as_slice.result.now (g.D.Disk.content c.args.disk.now) _ _ (rw c.as_slice.ensures c.in-Ok.ensures.names) c.present_files.ensures.reads.same c.in-Ok-sweep.ensures.swept
 
-pub returns-clause-crash_between : goal.returns-clause-crash_between
-returns-clause-crash_between g c = looks_between g.D.Disk c.args.disk.now c.present_files.new.disk c.present_files.ensures.reads.crash
+pub returns-clause-crash_root : goal.returns-clause-crash_root
+returns-clause-crash_root g c = λ files_are. looks_one g.D.Disk (1 - slot_number c.args.slot) None c.args.disk.now c.present_files.new.disk c.present_files.ensures.reads.crash
 
-pub returns-in-Ok-sweep-clause-crash_between : goal.returns-in-Ok-sweep-clause-crash_between
-returns-in-Ok-sweep-clause-crash_between g c =
-    read_between g.D.Disk c.args.disk.now c.present_files.new.disk c.sweep.new.disk c.present_files.ensures.reads.same c.present_files.ensures.reads.crash c.sweep.ensures.crash_between
+pub returns-in-Ok-sweep-clause-crash_root : goal.returns-in-Ok-sweep-clause-crash_root
+returns-in-Ok-sweep-clause-crash_root g c = λ files_are.
+    let slot = slot_number c.args.slot in
+    read_root g.D.Disk (1 - slot) None c.args.disk.now c.present_files.new.disk c.sweep.new.disk (omega arith) c.present_files.ensures.reads.same c.present_files.ensures.reads.crash
+    (c.sweep.ensures.crash_root (still_root slot (spelling c.args.root.now) (g.D.Disk.content c.args.disk.now) (g.D.Disk.content c.present_files.new.disk) c.present_files.ensures.reads.same files_are))
 
-pub returns-in-Ok-clause-crash_between : goal.returns-in-Ok-clause-crash_between
-returns-in-Ok-clause-crash_between g c =
-    read_between g.D.Disk c.args.disk.now c.present_files.new.disk c.sweep.new.disk c.present_files.ensures.reads.same c.present_files.ensures.reads.crash c.sweep.ensures.crash_between
+pub returns-in-Ok-clause-crash_root : goal.returns-in-Ok-clause-crash_root
+returns-in-Ok-clause-crash_root g c = λ files_are.
+    let slot = slot_number c.args.slot in
+    read_root g.D.Disk (1 - slot) None c.args.disk.now c.present_files.new.disk c.sweep.new.disk (omega arith) c.present_files.ensures.reads.same c.present_files.ensures.reads.crash
+    (c.sweep.ensures.crash_root (still_root slot (spelling c.args.root.now) (g.D.Disk.content c.args.disk.now) (g.D.Disk.content c.present_files.new.disk) c.present_files.ensures.reads.same files_are))

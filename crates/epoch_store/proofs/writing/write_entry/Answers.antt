@@ -1,14 +1,14 @@
 -- The entry is written to its files, and then the root is replaced.
-use Rattle.std.proofs.Common.{◌≡◌, ◌∙◌, ap, sym, subst}
+use Rattle.std.proofs.Common.{◌≡◌, ◌∙◌, None, ap, sym, subst}
 use Rattle.disk_model.specs.Disk.{BothTold, WhereTold}
 use Rattle.epoch_file.specs.declared.entry.Written.{Written}
 use Rattle.root_slots.specs.declared.root.Root.{Root}
-use Rattle.root_slots.specs.Slots.{slot_number}
+use Rattle.root_slots.specs.Slots.{slot_number, slot_below}
 use Rattle.root_slots.specs.Spelling.{spelling}
 use Rattle.root_change.specs.Texts.{HasPartSizes, KeepsNamed}
-use Rattle.root_change.proofs.Phases.{beside_between}
+use Rattle.root_change.proofs.Phases.{beside_one}
 use Rattle.epoch_store.specs.Entering.{root_after, root_with}
-use Rattle.epoch_store.proofs.Entering.{entered_done, entered_leaves, replaced_between, root_sized, rooted_after, sizes_after, stopped_leaves}
+use Rattle.epoch_store.proofs.Entering.{entered_done, entered_leaves, replaced_root, root_sized, rooted_after, sizes_after, stopped_leaves}
 use Rattle.epoch_store.proofs.writing.write_entry.Goals as goal
 
 pub returns-in_err-written-clause-crash : goal.returns-in_err-written-clause-crash
@@ -58,11 +58,11 @@ pub returns-clause-rooted : goal.returns-clause-rooted
 returns-clause-rooted g c =
     rooted_after c.args.root.now c.args.place.now c.requires.place c.requires.small c.args.entry.now c.requires.form c.root_fits.ensures.count (slot_number c.args.free) (spelling c.next_root-next.result) (g.D.Disk.content c.args.disk.now) (g.D.Disk.content c.write_files.new.disk) (g.D.Disk.content c.replace_root.new.disk) c.in_ok-written.ensures.entered c.in_ok-replace_root.ensures.rooted
 
-pub returns-in_err-written-clause-crash_between : goal.returns-in_err-written-clause-crash_between
-returns-in_err-written-clause-crash_between g c = beside_between g.D.Disk c.args.root.now c.args.disk.now c.write_files.new.disk c.write_files.ensures.crash_beside
+pub returns-in_err-written-clause-crash_root : goal.returns-in_err-written-clause-crash_root
+returns-in_err-written-clause-crash_root g c = (None, beside_one g.D.Disk c.args.root.now (slot_number c.args.free) None c.args.disk.now c.write_files.new.disk c.write_files.ensures.crash_beside)
 
-pub returns-in_err-replace_root-clause-crash_between : goal.returns-in_err-replace_root-clause-crash_between
-returns-in_err-replace_root-clause-crash_between g c = replaced_between g.D.Disk c.args.root.now c.args.disk.now c.write_files.new.disk c.replace_root.new.disk c.write_files.ensures.crash_beside c.replace_root.ensures.crash_between
+pub returns-in_err-replace_root-clause-crash_root : goal.returns-in_err-replace_root-clause-crash_root
+returns-in_err-replace_root-clause-crash_root g c = replaced_root g.D.Disk c.args.root.now (slot_number c.args.free) (spelling c.next_root-next.result) c.args.disk.now c.write_files.new.disk c.replace_root.new.disk (slot_below c.args.free) c.write_files.ensures.crash_beside c.replace_root.ensures.crash_root
 
-pub returns-clause-crash_between : goal.returns-clause-crash_between
-returns-clause-crash_between g c = replaced_between g.D.Disk c.args.root.now c.args.disk.now c.write_files.new.disk c.replace_root.new.disk c.write_files.ensures.crash_beside c.replace_root.ensures.crash_between
+pub returns-clause-crash_root : goal.returns-clause-crash_root
+returns-clause-crash_root g c = replaced_root g.D.Disk c.args.root.now (slot_number c.args.free) (spelling c.next_root-next.result) c.args.disk.now c.write_files.new.disk c.replace_root.new.disk (slot_below c.args.free) c.write_files.ensures.crash_beside c.replace_root.ensures.crash_root

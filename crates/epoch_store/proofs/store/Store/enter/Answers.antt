@@ -1,5 +1,5 @@
 -- What is kept, and what is on the disk.
-use Rattle.std.proofs.Common.{refl, rules, ◌≡◌, ◌∙◌, ◌+◌, ◌++◌, ◌∷◌, [], ℕ, List, length, sym, ap, subst, is_ok, ◌≤◌, arith}
+use Rattle.std.proofs.Common.{refl, rules, ◌≡◌, ◌∙◌, ◌+◌, ◌-◌, ◌++◌, ◌∷◌, [], ℕ, List, length, sym, ap, subst, is_ok, ◌≤◌, arith}
 use Rattle.arch_base.specs.declared.ids.Form.TheVariants as form
 use Rattle.disk_model.specs.Disk.{WhereTold}
 use Rattle.epoch_file.specs.Appending.{appended}
@@ -7,6 +7,7 @@ use Rattle.epoch_file.specs.Lying.{EntryLiesIn}
 use Rattle.epoch_file.specs.declared.entry.NewEntry.{NewEntry}
 use Rattle.epoch_file.specs.declared.entry.Written.{Written}
 use Rattle.root_slots.specs.declared.root.Root.{Root}
+use Rattle.root_slots.specs.OneRoot.{BeginsRootIn}
 use Rattle.root_slots.specs.Slots.{slot_number}
 use Rattle.root_change.specs.Texts.{HasPartSizes}
 use Rattle.store_finding.specs.declared.entries.StoredEntry.{StoredEntry}
@@ -41,7 +42,7 @@ returns-in_err-root-clause-changes g c =
     stopped why (search rules)
     (λ a b cache store room enters.
     enters_leaves e (g.D.Disk.content c.args.disk.now) (same_view _ _ _ _ c.reserve.ensures.items ∙ c.self.view_is) c.other-free.ensures c.next_place-place.ensures.next refl refl a b cache store room enters g.D.Disk c.args.disk.now c.write_entry.new.disk c.write_entry.ensures.crash)
-    (search rules) (unless_short why said.refused said.undamaged) said.undamaged (none_told _ why said.undamaged) (search rules) said.count c.write_entry.ensures.crash_between
+    (search rules) (unless_short why said.refused said.undamaged) said.undamaged (none_told _ why said.undamaged) (search rules) said.count (subst (λ (n : ℕ). BeginsRootIn g.D.Disk n c.args.disk.now c.write_entry.new.disk) (c.other-free.ensures ∙ ap (λ (u : StoreState). 1 - u.slot) c.self.view_is) c.write_entry.ensures.crash_root)
 
 pub returns-clause-changes : goal.returns-clause-changes
 returns-clause-changes g c =
@@ -68,7 +69,7 @@ returns-clause-changes g c =
       cause = search rules;
       count = c.in_ok-root.ensures.count;
       rooted = c.in_ok-root.ensures.rooted;
-      crash_between = c.write_entry.ensures.crash_between;
+      crash_root = subst (λ (n : ℕ). BeginsRootIn g.D.Disk n c.args.disk.now c.write_entry.new.disk) (c.other-free.ensures ∙ ap (λ (u : StoreState). 1 - u.slot) c.self.view_is) c.write_entry.ensures.crash_root;
     }
 
 pub invariant_of-self-3 : goal.invariant_of-self-3

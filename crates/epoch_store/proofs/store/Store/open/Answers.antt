@@ -1,16 +1,16 @@
 -- What is left while the archive is opened, and what is there then.
-use Rattle.std.proofs.Common.{inl, inr, rules}
+use Rattle.std.proofs.Common.{◌-◌, None, inl, inr, refl, arith, rules}
 use Rattle.disk_model.specs.Disk.{Files, Image}
 use Rattle.disk_model.specs.Moments.{started, joined, weaker}
 use Rattle.root_change.specs.Texts.{StandsFor}
-use Rattle.root_slots.specs.Between.{looks_between}
+use Rattle.root_slots.proofs.OneRoots.{looks_one}
 use Rattle.root_slots.specs.Slots.{slot_number}
 use Rattle.epoch_store.specs.Opens.{RecoversOfWith, SyncsFirst}
 use Rattle.store_finding.specs.Recovery.{RecoversWith}
 use Rattle.store_finding.specs.Kept.{StoreState}
 use Rattle.store_finding.specs.declared.finding.Found.{Found}
-use Rattle.epoch_store.proofs.Readying.{synced_between}
-use Rattle.epoch_store.proofs.Reopening.{at_first, in_epochs, on_synced, opened_kept, opened_sizes, opened_store, opened_texts, opening_stands, opens_found, opens_refused, opens_view, opens_want, opens_well, reading_stands, refused_first, synced_recovers, texts_found}
+use Rattle.epoch_store.proofs.Readying.{synced_root}
+use Rattle.epoch_store.proofs.Reopening.{at_first, in_epochs, found_root, on_synced, opened_kept, opened_sizes, opened_store, opened_texts, opening_stands, opens_found, opens_refused, opens_view, opens_want, opens_well, reading_stands, refused_first, synced_recovers, texts_found}
 use Rattle.epoch_store.proofs.store.Store.open.Goals as goal
 
 pub invariant_of-store : goal.invariant_of-store
@@ -42,7 +42,7 @@ returns-in-Err-clause-opened g c =
       kept = tt;
       sizes = tt;
       cause = search rules;
-      crash_between = looks_between g.D.Disk disk d1 c.find_synced.ensures.crash;
+      crash_root = record { slot = 0; in_range = omega arith; other = tt; crash = looks_one g.D.Disk 0 None disk d1 c.find_synced.ensures.crash };
     }
 
 -- The disk was settled.
@@ -77,7 +77,12 @@ returns-in-Ok-settle-clause-opened g c =
       kept = opened_kept found.root (slot_number found.slot) k0 k1 k2 c.in-Ok.ensures.synced c.in-Ok-settle.ensures.kept;
       sizes = opened_sizes found k0 k1 k2 c.in-Ok.ensures.found c.in-Ok.ensures.synced c.in-Ok-settle.ensures.kept;
       cause = search rules;
-      crash_between = synced_between g.D.Disk disk d1 c.settle.new.disk (g.met.D.Disk.reads_fit disk) c.in-Ok.ensures.synced c.find_synced.ensures.crash c.settle.ensures.crash_between;
+      crash_root = record {
+        slot = 1 - slot_number found.slot;
+        in_range = omega arith;
+        other = refl;
+        crash = synced_root g.D.Disk (1 - slot_number found.slot) None disk d1 c.settle.new.disk (omega arith) (g.met.D.Disk.reads_fit disk) c.in-Ok.ensures.synced c.find_synced.ensures.crash (c.settle.ensures.crash_root (found_root found k0 k1 c.in-Ok.ensures.found c.in-Ok.ensures.synced));
+      };
     }
 
 -- It couldn't be settled.
@@ -112,7 +117,12 @@ returns-in-Err-settle-clause-opened g c =
       kept = tt;
       sizes = tt;
       cause = search rules;
-      crash_between = synced_between g.D.Disk disk d1 c.settle.new.disk (g.met.D.Disk.reads_fit disk) c.in-Ok.ensures.synced c.find_synced.ensures.crash c.settle.ensures.crash_between;
+      crash_root = record {
+        slot = 1 - slot_number found.slot;
+        in_range = omega arith;
+        other = tt;
+        crash = synced_root g.D.Disk (1 - slot_number found.slot) None disk d1 c.settle.new.disk (omega arith) (g.met.D.Disk.reads_fit disk) c.in-Ok.ensures.synced c.find_synced.ensures.crash (c.settle.ensures.crash_root (found_root found k0 k1 c.in-Ok.ensures.found c.in-Ok.ensures.synced));
+      };
     }
 
 pub returns-in-Ok-settle-clause-texts : goal.returns-in-Ok-settle-clause-texts
