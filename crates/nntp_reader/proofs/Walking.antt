@@ -1,5 +1,5 @@
 -- The lines of a range, one live number after another.
-use Rattle.std.proofs.Common.{◌≡◌, ◌+◌, ℕ, List, [], ◌++◌, Option, Some, None}
+use Rattle.std.proofs.Common.{◌≡◌, ◌+◌, ℕ, List, [], ◌++◌, Some, None}
 use Rattle.arch_model.specs.Archives.{Entry}
 use Rattle.shelf_doors.specs.Numbers.{live_in, first_of}
 use Rattle.shelf_doors.proofs.Walking.{lines-rest, lines-none}

@@ -1,6 +1,6 @@
 -- The table of a reader's commands: what each says of an archive, at a moment, to a session with a
 -- group (RFC 3977, sections 5 to 8).
-use Rattle.std.specs.Prelude.{ℕ, Bool, true, false, List, Result, Ok, Err, is_ok}
+use Rattle.std.specs.Prelude.{ℕ, Bool, false, List, Result, Ok, Err, is_ok}
 use Rattle.nntp_words.specs.declared.numbers.Range.{Range}
 use Rattle.arch_model.specs.Archives.{Archive, live}
 use Rattle.line_door.specs.Acts.{Departure}

@@ -1,4 +1,4 @@
-use Rattle.std.proofs.Common.{◌≡◌, ◌+◌, ◌++◌, ◌∙◌, true, not, IfSome, is_some, List, ℕ, ap, refl, sym, subst, rules}
+use Rattle.std.proofs.Common.{◌≡◌, ◌+◌, ◌++◌, ◌∙◌, true, not, IfSome, is_some, refl, sym, subst, rules}
 use Rattle.arch_model.specs.Archives.{live, text_of}
 use Rattle.arch_model.proofs.Shelving.{stays-same, stays-joined}
 use Rattle.line_door.specs.Readers.{as_said, line_reader}
@@ -10,7 +10,7 @@ use Rattle.nntp_reader.specs.Headers.{field_at, fields_block}
 use Rattle.nntp_reader.specs.Notices.{refused_code}
 use Rattle.nntp_reader.specs.Replies.{in_way}
 use Rattle.nntp_reader.specs.Sessions.{start_if}
-use Rattle.nntp_reader.proofs.Streams.{fields_left, left-value, left-none, left-some, value-some, range-streamed}
+use Rattle.nntp_reader.proofs.Streams.{left-value, left-none, left-some, value-some, range-streamed}
 use Rattle.nntp_reader.proofs.Walking.{fields-rest}
 use Rattle.nntp_reader.proofs.field.say_range.Goals as goal
 
