@@ -1,11 +1,12 @@
 -- The entries of a store by their blob ids: the index of a blob id, and its text.
 use Rattle.std.specs.Prelude.{◌≡◌, ℕ, Bool, true, false, cond, List, [], ◌∷◌, slice_get, Option, Some, None, Ok, Err, IsTrue, is_some, ◌↔◌, refl}
-use Rattle.std.specs.Str.{bytes_eq}
 use Rattle.std.proofs.Common.{◌∙◌, sym, ap, subst}
-use Rattle.std.proofs.lemmas.Slice.Eq.{bytes_eq-Decides}
 use Rattle.std.proofs.lemmas.Option.{same_Some}
 use Rattle.arch_base.specs.declared.ids.ObjectId.{ObjectId}
 use Rattle.arch_base.specs.declared.ids.Form.TheVariants as form
+use Rattle.arch_base.specs.Ids.{id_eq}
+use Rattle.arch_base.specs.contracts.ids.ObjectIdPartialEq.TheImpl as code
+use Rattle.arch_base.proofs.IdOrder.{id_eq-Decides}
 use Rattle.git_objects.specs.Objects.{blob_id_of}
 use Rattle.arch_model.specs.Archives.{Entry, Archive, is_message, messages, text_of, blob_number}
 use Rattle.arch_model.specs.Shelves.{blob_text, GivesBlobIn}
@@ -17,17 +18,18 @@ use Rattle.store_finding.specs.declared.entries.StoredEntry.{StoredEntry}
 use Rattle.epoch_store.specs.Reads.{GivesTextOf, line_if, line_of, text_if}
 use Rattle.store_finding.specs.Kept.{StoreState, KeepsArchive}
 use Rattle.archive_core.specs.Numbers.{IsMessageAt, HasBlobAt, IsBlobIndex}
+use Rattle.archive_core.proofs.SameIds.{same_ids}
 use Rattle.archive_core.proofs.Stored.{kept-at, message-at}
 
 -- The text of a blob id has it.
-has_step : (t : Bool) (e : Entry) (es : List Entry) (blob text : List ℕ) → bytes_eq blob (blob_id_of form.Sha1 e.text).0 ≡ t → cond t (Some e.text) (blob_text es blob) ≡ Some text
-    → (blob_text es blob ≡ Some text → bytes_eq blob (blob_id_of form.Sha1 text).0 ≡ true) → bytes_eq blob (blob_id_of form.Sha1 text).0 ≡ true
-has_step true e es blob text test is rest = subst (λ (t : List ℕ). bytes_eq blob (blob_id_of form.Sha1 t).0 ≡ true) (same_Some e.text text is) test
+has_step : (t : Bool) (e : Entry) (es : List Entry) (blob : ObjectId) (text : List ℕ) → id_eq blob (blob_id_of form.Sha1 e.text) ≡ t → cond t (Some e.text) (blob_text es blob) ≡ Some text
+    → (blob_text es blob ≡ Some text → id_eq blob (blob_id_of form.Sha1 text) ≡ true) → id_eq blob (blob_id_of form.Sha1 text) ≡ true
+has_step true e es blob text test is rest = subst (λ (t : List ℕ). id_eq blob (blob_id_of form.Sha1 t) ≡ true) (same_Some e.text text is) test
 has_step false e es blob text test is rest = rest is
 
-has_it : (es : List Entry) (blob text : List ℕ) → blob_text es blob ≡ Some text → bytes_eq blob (blob_id_of form.Sha1 text).0 ≡ true
+has_it : (es : List Entry) (blob : ObjectId) (text : List ℕ) → blob_text es blob ≡ Some text → id_eq blob (blob_id_of form.Sha1 text) ≡ true
 has_it [] blob text is = absurd (cc)
-has_it (e ∷ es) blob text is = has_step (bytes_eq blob (blob_id_of form.Sha1 e.text).0) e es blob text refl is (λ more. has_it es blob text more)
+has_it (e ∷ es) blob text is = has_step (id_eq blob (blob_id_of form.Sha1 e.text)) e es blob text refl is (λ more. has_it es blob text more)
 
 -- The entry of the archive that is the message of a number is the one of that number's text.
 pub record MessageOf (v : StoreState) (a : Archive) (n i : ℕ) (s : StoredEntry) : Type 0 where
@@ -50,48 +52,49 @@ message-of v a n i keeps at =
     }
 
 -- The entry of the number of a blob id has its text.
-pub blob-index : (v : StoreState) (a : Archive) (blob : List ℕ) (n i : ℕ) → KeepsArchive v a → Some n ≡ blob_number a.entries blob → IsMessageAt v.entries n i → IsBlobIndex a.entries blob (Some i)
+pub blob-index : (v : StoreState) (a : Archive) (blob : ObjectId) (n i : ℕ) → KeepsArchive v a → Some n ≡ blob_number a.entries blob → IsMessageAt v.entries n i → IsBlobIndex a.entries blob (Some i)
 blob-index v a blob n i keeps is at =
     let own = message-of v a n i keeps at in
     sym (blob_found-text 1 a.entries blob n keeps.valid.ends (rises-from 1 0 a.entries keeps.valid.order) (sym is)) ∙ own.once ∙ sym (ap text_if own.there)
 
 -- And so it has the blob id.
-pub blob-there : (v : StoreState) (a : Archive) (id : ObjectId) (n i : ℕ) → KeepsArchive v a → Some n ≡ blob_number a.entries id.0 → IsMessageAt v.entries n i → HasBlobAt v.entries id i
+pub blob-there : (v : StoreState) (a : Archive) (id : ObjectId) (n i : ℕ) → KeepsArchive v a → Some n ≡ blob_number a.entries id → IsMessageAt v.entries n i → HasBlobAt v.entries id i
 blob-there v a id n i keeps is at =
     let own = message-of v a n i keeps at in
-    let text : blob_text a.entries id.0 ≡ Some own.entry.text = blob-index v a id.0 n i keeps is at ∙ ap text_if own.there in
-    let same : id.0 ≡ (blob_id_of form.Sha1 own.entry.text).0 = (bytes_eq-Decides id.0 (blob_id_of form.Sha1 own.entry.text).0).0 (has_it a.entries id.0 own.entry.text text) in
-    (at.entry, at.there, own.blob ∙ ap (λ (bytes : List ℕ). record { 0 = bytes }) (sym same))
+    let text : blob_text a.entries id ≡ Some own.entry.text = blob-index v a id n i keeps is at ∙ ap text_if own.there in
+    let same : id ≡ blob_id_of form.Sha1 own.entry.text = (id_eq-Decides id (blob_id_of form.Sha1 own.entry.text)).0 (has_it a.entries id own.entry.text text) in
+    (at.entry, at.there, own.blob ∙ sym same)
 
 -- No entry has the blob id.
-pub blob-nowhere : (a : Archive) (id : ObjectId) → None ≡ blob_number a.entries id.0 → IsBlobIndex a.entries id.0 None
-blob-nowhere a id is = blob-none a.entries id.0 (sym is)
+pub blob-nowhere : (a : Archive) (id : ObjectId) → None ≡ blob_number a.entries id → IsBlobIndex a.entries id None
+blob-nowhere a id is = blob-none a.entries id (sym is)
 
 -- The message of a blob id's number has an index.
-pub never-lost : (v : StoreState) (a : Archive) (id : ObjectId) (n : ℕ) → KeepsArchive v a → Some n ≡ blob_number a.entries id.0 → is_some (text_of (messages a.entries) n) ≡ false → ⊥
+pub never-lost : (v : StoreState) (a : Archive) (id : ObjectId) (n : ℕ) → KeepsArchive v a → Some n ≡ blob_number a.entries id → is_some (text_of (messages a.entries) n) ≡ false → ⊥
 never-lost v a id n keeps is lacks =
-    let found = blob-found 1 a.entries id.0 n keeps.valid.ends (rises-from 1 0 a.entries keeps.valid.order) (sym is) in
+    let found = blob-found 1 a.entries id n keeps.valid.ends (rises-from 1 0 a.entries keeps.valid.order) (sym is) in
     let wrong : true ≡ false = sym (ap is_some found.1.1) ∙ lacks in
     cc
 
 -- Whether an entry has a blob id, by its line.
-pub blob-line : (es : List StoredEntry) (i : ℕ) (line : EntryLine) (id : ObjectId) (b : Bool) → Some line ≡ line_if (slice_get es i) → b ≡ bytes_eq line.blob.0 id.0 → IsTrue b ↔ HasBlobAt es id i
+pub blob-line : (es : List StoredEntry) (i : ℕ) (line : EntryLine) (id : ObjectId) (b : Bool) → Some line ≡ line_if (slice_get es i) → b ≡ code.ghosts.eq line.blob id → IsTrue b ↔ HasBlobAt es id i
 blob-line es i line id b lined test = by (slice_get es i) refl lined
   where
     by : (o : Option StoredEntry) → slice_get es i ≡ o → Some line ≡ line_if o → IsTrue b ↔ HasBlobAt es id i
     by None is none = absurd (cc)
     by (Some e) is some =
         let blob : line.blob ≡ e.seen.blob = ap (λ (l : EntryLine). l.blob) (same_Some line (line_of e) some) in
-        let decides = bytes_eq-Decides line.blob.0 id.0 in (
-          λ hit. (e, is, sym blob ∙ ap (λ (bytes : List ℕ). record { 0 = bytes }) (decides.0 (sym test ∙ hit))),
-          λ has. test ∙ decides.1 (ap (λ (i : ObjectId). i.0) (blob ∙ ap (λ (s : StoredEntry). s.seen.blob) (same_Some e has.0 (sym is ∙ has.1)) ∙ has.2)),
+        let decides = id_eq-Decides line.blob id in
+        let tests : b ≡ id_eq line.blob id = test ∙ same_ids line.blob id in (
+          λ hit. (e, is, sym blob ∙ decides.0 (sym tests ∙ hit)),
+          λ has. tests ∙ decides.1 (blob ∙ ap (λ (s : StoredEntry). s.seen.blob) (same_Some e has.0 (sym is ∙ has.1)) ∙ has.2),
         )
 
 -- The result by the text that is read.
-pub blob-gives : (a : Archive) (id : ObjectId) (i : ℕ) (old new : List ℕ) → IsBlobIndex a.entries id.0 (Some i) → GivesTextOf a i old new (Ok tt) → GivesBlobIn a.entries id.0 old new (Ok true)
+pub blob-gives : (a : Archive) (id : ObjectId) (i : ℕ) (old new : List ℕ) → IsBlobIndex a.entries id (Some i) → GivesTextOf a i old new (Ok tt) → GivesBlobIn a.entries id old new (Ok true)
 blob-gives a id i old new is given = (given.0, is ∙ given.1, given.2)
 
-pub blob-refuses : (a : Archive) (id : ObjectId) (i : ℕ) (old new : List ℕ) (why : TextRefusal) → GivesTextOf a i old new (Err why) → GivesBlobIn a.entries id.0 old new (Err why)
+pub blob-refuses : (a : Archive) (id : ObjectId) (i : ℕ) (old new : List ℕ) (why : TextRefusal) → GivesTextOf a i old new (Err why) → GivesBlobIn a.entries id old new (Err why)
 blob-refuses a id i old new DiskFault given = tt
 blob-refuses a id i old new (Damaged named found) given = given
 blob-refuses a id i old new NoMemory given = tt

@@ -2,14 +2,15 @@
 -- number had the text.
 use Rattle.std.specs.Prelude.{◌≡◌, ◌+◌, ◌-◌, ◌<◌, ◌≤◌, ◌==◌, ◌&&◌, ◌||◌, ℕ, zero, suc, Bool, true, false, not, List, [], ◌∷◌, ◌++◌, length, take, drop, reverse, get_or, slice_get, Some, None, if◌then◌else◌, refl}
 use Rattle.std.specs.List.{AllZip}
-use Rattle.std.specs.Str.{bytes_eq}
 use Rattle.std.proofs.Common.{◌⊎◌, ◌∙◌, sym, ap, subst, inl, inr, cond, arith, rules}
 use Rattle.std.specs.BTreeSet.{BTreeSet, IsEmpty}
 use Rattle.std.proofs.lemmas.List.{drop_more, drop_all, take_all, reverse-append, reverse-reverse}
 use Rattle.std.proofs.lemmas.List.Elements.{filter_more, length_all_zip}
 use Rattle.std.proofs.lemmas.Option.{slice_get_within, slice_get-get_or, same_Some}
-use Rattle.std.proofs.lemmas.Slice.Eq.{bytes_eq-Decides}
+use Rattle.arch_base.specs.Ids.{id_eq}
 use Rattle.arch_base.specs.declared.ids.ObjectId.{ObjectId}
+use Rattle.arch_base.specs.contracts.ids.ObjectIdPartialEq.TheImpl as code
+use Rattle.arch_base.proofs.IdOrder.{id_eq-flip}
 use Rattle.arch_base.specs.declared.ids.Form.TheVariants as form
 use Rattle.git_objects.specs.Objects.{blob_id_of}
 use Rattle.git_objects.specs.declared.entry_kind.EntryKind.{EntryKind}
@@ -27,36 +28,28 @@ use Rattle.archive_core.specs.Kept.{IndexesKept, PutsText}
 use Rattle.archive_core.specs.Placing.{message_places, has_ended, PlacesBy, PlacesFrom, has_blob_at, IsLiveWith}
 use Rattle.archive_core.specs.declared.placing.MessagePlace.{MessagePlace}
 use Rattle.store_finding.proofs.Indexes.{indexes_none, indexes_more}
+use Rattle.archive_core.proofs.SameIds.{same_ids}
 use Rattle.archive_core.proofs.Places.{place_of, places-low}
 use Rattle.archive_core.proofs.Removing.{places-message}
 
--- A test of bytes goes either way.
-pub bytes-flip : (x y : List ℕ) → bytes_eq x y ≡ bytes_eq y x
-bytes-flip x y = by (bytes_eq x y) (bytes_eq y x) refl refl where
-  by : (t u : Bool) → bytes_eq x y ≡ t → bytes_eq y x ≡ u → t ≡ u
-  by true true a b = refl
-  by false false a b = refl
-  by true false a b = absurd (let hit : bytes_eq y x ≡ true = (bytes_eq-Decides y x).1 (sym ((bytes_eq-Decides x y).0 a)) in let wrong : true ≡ false = sym hit ∙ b in cc)
-  by false true a b = absurd (let hit : bytes_eq x y ≡ true = (bytes_eq-Decides x y).1 (sym ((bytes_eq-Decides y x).0 b)) in let wrong : true ≡ false = sym hit ∙ a in cc)
-
 -- A test of two blob ids, here of an entry and of the one that goes.
-pub is-other : (x y : List ℕ) (r : Bool) → r ≡ not (bytes_eq x y) → r ≡ true → bytes_eq y x ≡ false
-is-other x y r is told = bytes-flip y x ∙ by (bytes_eq x y) (sym is ∙ told) where
+pub is-other : (x y : ObjectId) (r : Bool) → r ≡ not (code.ghosts.eq x y) → r ≡ true → id_eq y x ≡ false
+is-other x y r is told = id_eq-flip y x ∙ by (id_eq x y) (sym (is ∙ ap not (same_ids x y)) ∙ told) where
   by : (t : Bool) → not t ≡ true → t ≡ false
   by true wrong = absurd (cc)
   by false right = refl
 
-pub is-same : (x y : List ℕ) (r : Bool) → r ≡ not (bytes_eq x y) → r ≡ false → bytes_eq y x ≡ true
-is-same x y r is told = bytes-flip y x ∙ by (bytes_eq x y) (sym is ∙ told) where
+pub is-same : (x y : ObjectId) (r : Bool) → r ≡ not (code.ghosts.eq x y) → r ≡ false → id_eq y x ≡ true
+is-same x y r is told = id_eq-flip y x ∙ by (id_eq x y) (sym (is ∙ ap not (same_ids x y)) ∙ told) where
   by : (t : Bool) → not t ≡ false → t ≡ true
   by true right = refl
   by false wrong = absurd (cc)
 
 -- An entry with another blob id stays, and one with this blob id goes.
-pub first-stays : (blob : List ℕ) (s : StoredEntry) (ss : List StoredEntry) → bytes_eq blob s.seen.blob.0 ≡ false → without_blob (s ∷ ss) blob ≡ s ∷ without_blob ss blob
+pub first-stays : (blob : ObjectId) (s : StoredEntry) (ss : List StoredEntry) → id_eq blob s.seen.blob ≡ false → without_blob (s ∷ ss) blob ≡ s ∷ without_blob ss blob
 first-stays blob s ss other = ap (λ (t : Bool). if not t then s ∷ without_blob ss blob else without_blob ss blob) other
 
-pub first-goes : (blob : List ℕ) (s : StoredEntry) (ss : List StoredEntry) → bytes_eq blob s.seen.blob.0 ≡ true → without_blob (s ∷ ss) blob ≡ without_blob ss blob
+pub first-goes : (blob : ObjectId) (s : StoredEntry) (ss : List StoredEntry) → id_eq blob s.seen.blob ≡ true → without_blob (s ∷ ss) blob ≡ without_blob ss blob
 first-goes blob s ss same = ap (λ (t : Bool). if not t then s ∷ without_blob ss blob else without_blob ss blob) same
 
 append_none : (ss : List StoredEntry) → ss ++ [] ≡ ss
@@ -64,17 +57,17 @@ append_none [] = refl
 append_none (s ∷ ss) = ap (λ (l : List StoredEntry). s ∷ l) (append_none ss)
 
 -- The same of the next entry after some.
-pub next-stays : (blob : List ℕ) (es : List StoredEntry) (i : ℕ) (s : StoredEntry) → i < length es → s ≡ get_or es i s → bytes_eq blob s.seen.blob.0 ≡ false → without_blob (take (i + 1) es) blob ≡ without_blob (take i es) blob ++ s ∷ []
+pub next-stays : (blob : ObjectId) (es : List StoredEntry) (i : ℕ) (s : StoredEntry) → i < length es → s ≡ get_or es i s → id_eq blob s.seen.blob ≡ false → without_blob (take (i + 1) es) blob ≡ without_blob (take i es) blob ++ s ∷ []
 next-stays blob es i s less is other =
-    let test : bytes_eq blob (get_or es i s).seen.blob.0 ≡ false = ap (λ (x : StoredEntry). bytes_eq blob x.seen.blob.0) (sym is) ∙ other in
-    filter_more (λ (e : StoredEntry). not (bytes_eq blob e.seen.blob.0)) es i s less
+    let test : id_eq blob (get_or es i s).seen.blob ≡ false = ap (λ (x : StoredEntry). id_eq blob x.seen.blob) (sym is) ∙ other in
+    filter_more (λ (e : StoredEntry). not (id_eq blob e.seen.blob)) es i s less
     ∙ ap (λ (t : Bool). without_blob (take i es) blob ++ cond (not t) (get_or es i s ∷ []) []) test
     ∙ ap (λ (x : StoredEntry). without_blob (take i es) blob ++ x ∷ []) (sym is)
 
-pub next-goes : (blob : List ℕ) (es : List StoredEntry) (i : ℕ) (s : StoredEntry) → i < length es → s ≡ get_or es i s → bytes_eq blob s.seen.blob.0 ≡ true → without_blob (take (i + 1) es) blob ≡ without_blob (take i es) blob
+pub next-goes : (blob : ObjectId) (es : List StoredEntry) (i : ℕ) (s : StoredEntry) → i < length es → s ≡ get_or es i s → id_eq blob s.seen.blob ≡ true → without_blob (take (i + 1) es) blob ≡ without_blob (take i es) blob
 next-goes blob es i s less is same =
-    let test : bytes_eq blob (get_or es i s).seen.blob.0 ≡ true = ap (λ (x : StoredEntry). bytes_eq blob x.seen.blob.0) (sym is) ∙ same in
-    filter_more (λ (e : StoredEntry). not (bytes_eq blob e.seen.blob.0)) es i s less
+    let test : id_eq blob (get_or es i s).seen.blob ≡ true = ap (λ (x : StoredEntry). id_eq blob x.seen.blob) (sym is) ∙ same in
+    filter_more (λ (e : StoredEntry). not (id_eq blob e.seen.blob)) es i s less
     ∙ ap (λ (t : Bool). without_blob (take i es) blob ++ cond (not t) (get_or es i s ∷ []) []) test
     ∙ append_none (without_blob (take i es) blob)
 
@@ -116,10 +109,10 @@ kept-more ss s old new indexed takes kept zip =
     let parts = last-kept ss s kept zip in
     subst (λ (l : List StoredEntry). IndexesStored l new) (sym parts.is) (indexes_more parts.front parts.last old new (indexed parts.front parts.all) (takes-kept s parts.last old new parts.one takes))
 
-pub kept-stays : (blob : List ℕ) (es : List StoredEntry) (i : ℕ) (s : StoredEntry) (old new : Index) → i < length es → s ≡ get_or es i s → bytes_eq blob s.seen.blob.0 ≡ false → IndexesKept (without_blob (take i es) blob) old → IndexTakes old new s → IndexesKept (without_blob (take (i + 1) es) blob) new
+pub kept-stays : (blob : ObjectId) (es : List StoredEntry) (i : ℕ) (s : StoredEntry) (old new : Index) → i < length es → s ≡ get_or es i s → id_eq blob s.seen.blob ≡ false → IndexesKept (without_blob (take i es) blob) old → IndexTakes old new s → IndexesKept (without_blob (take (i + 1) es) blob) new
 kept-stays blob es i s old new less is other indexed takes = subst (λ (l : List StoredEntry). IndexesKept l new) (sym (next-stays blob es i s less is other)) (kept-more (without_blob (take i es) blob) s old new indexed takes)
 
-pub kept-goes : (blob : List ℕ) (es : List StoredEntry) (i : ℕ) (s : StoredEntry) (index : Index) → i < length es → s ≡ get_or es i s → bytes_eq blob s.seen.blob.0 ≡ true → IndexesKept (without_blob (take i es) blob) index → IndexesKept (without_blob (take (i + 1) es) blob) index
+pub kept-goes : (blob : ObjectId) (es : List StoredEntry) (i : ℕ) (s : StoredEntry) (index : Index) → i < length es → s ≡ get_or es i s → id_eq blob s.seen.blob ≡ true → IndexesKept (without_blob (take i es) blob) index → IndexesKept (without_blob (take (i + 1) es) blob) index
 kept-goes blob es i s index less is same indexed = subst (λ (l : List StoredEntry). IndexesKept l index) (sym (next-goes blob es i s less is same)) indexed
 
 -- Entries that were kept of others have the same places.
@@ -151,10 +144,10 @@ skip_step : (m : Bool) (number own i : ℕ) (alive : Bool) (ps : List MessagePla
 skip_step true number own i alive ps rise = places-low number (own + 1) ps (let low : number ≤ own = rise.0 in omega (arith, low)) rise.1
 skip_step false number own i alive ps rise = rise
 
-pub rises-without : (blob : List ℕ) (es : List StoredEntry) (number i j : ℕ) → PlacesFrom number (message_places i es) → PlacesFrom number (message_places j (without_blob es blob))
+pub rises-without : (blob : ObjectId) (es : List StoredEntry) (number i j : ℕ) → PlacesFrom number (message_places i es) → PlacesFrom number (message_places j (without_blob es blob))
 rises-without blob [] number i j rise = tt
-rises-without blob (s ∷ ss) number i j rise = by (bytes_eq blob s.seen.blob.0) refl (λ n k l up. rises-without blob ss n k l up) where
-  by : (t : Bool) → bytes_eq blob s.seen.blob.0 ≡ t → ((n k l : ℕ) → PlacesFrom n (message_places k ss) → PlacesFrom n (message_places l (without_blob ss blob))) → PlacesFrom number (message_places j (without_blob (s ∷ ss) blob))
+rises-without blob (s ∷ ss) number i j rise = by (id_eq blob s.seen.blob) refl (λ n k l up. rises-without blob ss n k l up) where
+  by : (t : Bool) → id_eq blob s.seen.blob ≡ t → ((n k l : ℕ) → PlacesFrom n (message_places k ss) → PlacesFrom n (message_places l (without_blob ss blob))) → PlacesFrom number (message_places j (without_blob (s ∷ ss) blob))
   by true same ih =
       subst (λ (l : List StoredEntry). PlacesFrom number (message_places j l)) (sym (first-goes blob s ss same))
       (ih number (i + 1) j (skip_step (is_message s.seen.kind) number s.number i (not (is_ended_in ss s.number)) (message_places (i + 1) ss) rise))
@@ -164,12 +157,12 @@ rises-without blob (s ∷ ss) number i j rise = by (bytes_eq blob s.seen.blob.0)
 
 -- The places, from the last to the first, of the entries from an index on that stay, the numbers that
 -- these end, and how many stay before them.
-pub record FrontWithout (entries : List StoredEntry) (blob : List ℕ) (index left : ℕ) (places : List MessagePlace) (ended : BTreeSet ℕ) : Type 0 where
+pub record FrontWithout (entries : List StoredEntry) (blob : ObjectId) (index left : ℕ) (places : List MessagePlace) (ended : BTreeSet ℕ) : Type 0 where
   pub left_is : left ≡ length (without_blob (take index entries) blob)
   pub places_are : places ≡ reverse (message_places left (without_blob (drop index entries) blob))
   pub ended_are : (q : ℕ) → has_ended ended q ≡ is_ended_in (without_blob (drop index entries) blob) q
 
-pub front-none : (entries : List StoredEntry) (blob : List ℕ) (index left : ℕ) (places : List MessagePlace) (ended : BTreeSet ℕ) → index ≡ length entries → left ≡ length (without_blob entries blob) → places ≡ [] → ((q : ℕ) → has_ended ended q ≡ false) → FrontWithout entries blob index left places ended
+pub front-none : (entries : List StoredEntry) (blob : ObjectId) (index left : ℕ) (places : List MessagePlace) (ended : BTreeSet ℕ) → index ≡ length entries → left ≡ length (without_blob entries blob) → places ≡ [] → ((q : ℕ) → has_ended ended q ≡ false) → FrontWithout entries blob index left places ended
 front-none entries blob index left places ended at left_is none empty =
     let whole : take index entries ≡ entries = take_all index entries (omega (arith, at)) in
     let past : drop index entries ≡ [] = drop_all index entries (omega (arith, at)) in
@@ -183,7 +176,7 @@ pub none-ended : (ended : BTreeSet ℕ) → IsEmpty ended → (q : ℕ) → has_
 none-ended ended empty q = search rules
 
 -- An entry that goes changes nothing.
-pub front-goes : (entries : List StoredEntry) (blob : List ℕ) (i left : ℕ) (s : StoredEntry) (places : List MessagePlace) (ended : BTreeSet ℕ) → i < length entries → s ≡ get_or entries i s → bytes_eq blob s.seen.blob.0 ≡ true → FrontWithout entries blob (i + 1) left places ended → FrontWithout entries blob i left places ended
+pub front-goes : (entries : List StoredEntry) (blob : ObjectId) (i left : ℕ) (s : StoredEntry) (places : List MessagePlace) (ended : BTreeSet ℕ) → i < length entries → s ≡ get_or entries i s → id_eq blob s.seen.blob ≡ true → FrontWithout entries blob (i + 1) left places ended → FrontWithout entries blob i left places ended
 front-goes entries blob i left s places ended less is same front =
     let rest : without_blob (drop i entries) blob ≡ without_blob (drop (i + 1) entries) blob =
     ap (λ (es : List StoredEntry). without_blob es blob) (drop_more entries i s less ∙ ap (λ (x : StoredEntry). x ∷ drop (i + 1) entries) (sym is)) ∙ first-goes blob s (drop (i + 1) entries) same in
@@ -198,7 +191,7 @@ length_more [] s = refl
 length_more (x ∷ ss) s = let rest : length (ss ++ s ∷ []) ≡ length ss + 1 = length_more ss s in omega (arith, rest)
 
 -- One that stays has been counted among those before.
-pub left-some : (entries : List StoredEntry) (blob : List ℕ) (i left : ℕ) (s : StoredEntry) (places : List MessagePlace) (ended : BTreeSet ℕ) → i < length entries → s ≡ get_or entries i s → bytes_eq blob s.seen.blob.0 ≡ false → FrontWithout entries blob (i + 1) left places ended → left ≡ length (without_blob (take i entries) blob) + 1
+pub left-some : (entries : List StoredEntry) (blob : ObjectId) (i left : ℕ) (s : StoredEntry) (places : List MessagePlace) (ended : BTreeSet ℕ) → i < length entries → s ≡ get_or entries i s → id_eq blob s.seen.blob ≡ false → FrontWithout entries blob (i + 1) left places ended → left ≡ length (without_blob (take i entries) blob) + 1
 left-some entries blob i left s places ended less is other front = front.left_is ∙ ap length (next-stays blob entries i s less is other) ∙ length_more (without_blob (take i entries) blob) s
 
 reversed_first : (p : MessagePlace) (ps : List MessagePlace) → reverse (p ∷ ps) ≡ reverse ps ++ p ∷ []
@@ -221,7 +214,7 @@ places_turn Deletion s index rest old new ended more kind old_is ended_is by = (
   λ q. by.1 q ∙ ap (λ (b : Bool). s.number == q || b) (ended_is q) ∙ sym (ap (λ (m : EntryKind). (not (is_message m) && s.number == q) || is_ended_in rest q) kind),
 )
 
-pub front-stays : (entries : List StoredEntry) (blob : List ℕ) (i left index : ℕ) (s : StoredEntry) (old new : List MessagePlace) (ended more : BTreeSet ℕ) → i < length entries → s ≡ get_or entries i s → bytes_eq blob s.seen.blob.0 ≡ false → index ≡ left - 1 → FrontWithout entries blob (i + 1) left old ended → PlacesBy s.seen.kind old new ended more s index
+pub front-stays : (entries : List StoredEntry) (blob : ObjectId) (i left index : ℕ) (s : StoredEntry) (old new : List MessagePlace) (ended more : BTreeSet ℕ) → i < length entries → s ≡ get_or entries i s → id_eq blob s.seen.blob ≡ false → index ≡ left - 1 → FrontWithout entries blob (i + 1) left old ended → PlacesBy s.seen.kind old new ended more s index
     → FrontWithout entries blob i index new more
 front-stays entries blob i left index s old new ended more less is other index_is front by =
     let some : left ≡ length (without_blob (take i entries) blob) + 1 = left-some entries blob i left s old ended less is other front in
@@ -236,7 +229,7 @@ front-stays entries blob i left index s old new ended more less is other index_i
     }
 
 -- All entries have been looked at.
-pub front-all : (entries : List StoredEntry) (blob : List ℕ) (index left : ℕ) (places last : List MessagePlace) (ended : BTreeSet ℕ) → index ≡ 0 → FrontWithout entries blob index left places ended → last ≡ reverse places → last ≡ message_places 0 (without_blob entries blob)
+pub front-all : (entries : List StoredEntry) (blob : ObjectId) (index left : ℕ) (places last : List MessagePlace) (ended : BTreeSet ℕ) → index ≡ 0 → FrontWithout entries blob index left places ended → last ≡ reverse places → last ≡ message_places 0 (without_blob entries blob)
 front-all entries blob index left places last ended start front last_is =
     let front_is : FrontWithout entries blob 0 left places ended = subst (λ (n : ℕ). FrontWithout entries blob n left places ended) start front in
     last_is
@@ -281,7 +274,7 @@ pub found-live : (places : List MessagePlace) (entries : List StoredEntry) (blob
 found-live places entries blob index d less lives has = (index, get_or places index d, slice_get-get_or places index d less, refl, lives, has)
 
 -- What is kept after an edit: the index and the places of the entries that stay, and of one more.
-pub indexes-edited : (old new : StoreState) (before after : Index) (gone blob : ObjectId) (text : List ℕ) → IndexesKept (without_blob old.entries gone.0) before → blob ≡ blob_id_of form.Sha1 text → PutsText before after text blob old.root.next → EditsEntries old new gone text → IndexesStored new.entries after
+pub indexes-edited : (old new : StoreState) (before after : Index) (gone blob : ObjectId) (text : List ℕ) → IndexesKept (without_blob old.entries gone) before → blob ≡ blob_id_of form.Sha1 text → PutsText before after text blob old.root.next → EditsEntries old new gone text → IndexesStored new.entries after
 indexes-edited old new before after gone blob text indexed blob_is puts edits =
     let s = edits.entry in
     let put : IndexPuts before after s.seen.id blob (record { number = old.root.next; content = content_id_of text }) = puts s.seen.id edits.id in
@@ -291,17 +284,17 @@ indexes-edited old new before after gone blob text indexed blob_is puts edits =
     subst (λ (es : List StoredEntry). IndexesStored es after) (sym edits.entries)
     (indexes_more edits.front s before after (indexed edits.front edits.kept) (subst (λ (k : EntryKind). TakesBy k before after s) (sym edits.kind) message_put))
 
-pub places-edited : (old new : StoreState) (gone : ObjectId) (text : List ℕ) (count : ℕ) → count ≡ length (without_blob old.entries gone.0) → EditsEntries old new gone text → message_places 0 (without_blob old.entries gone.0) ++ place_of old.root.next count true ∷ [] ≡ message_places 0 new.entries
+pub places-edited : (old new : StoreState) (gone : ObjectId) (text : List ℕ) (count : ℕ) → count ≡ length (without_blob old.entries gone) → EditsEntries old new gone text → message_places 0 (without_blob old.entries gone) ++ place_of old.root.next count true ∷ [] ≡ message_places 0 new.entries
 places-edited old new gone text count count_is edits =
-    let at : count ≡ 0 + length edits.front = (let same : length (without_blob old.entries gone.0) ≡ length edits.front = length_all_zip KeptOf (without_blob old.entries gone.0) edits.front edits.kept in omega (arith, count_is, same)) in
-    ap (λ (ps : List MessagePlace). ps ++ place_of old.root.next count true ∷ []) (sym (places-kept 0 (without_blob old.entries gone.0) edits.front edits.kept))
+    let at : count ≡ 0 + length edits.front = (let same : length (without_blob old.entries gone) ≡ length edits.front = length_all_zip KeptOf (without_blob old.entries gone) edits.front edits.kept in omega (arith, count_is, same)) in
+    ap (λ (ps : List MessagePlace). ps ++ place_of old.root.next count true ∷ []) (sym (places-kept 0 (without_blob old.entries gone) edits.front edits.kept))
     ∙ ap (λ (n : ℕ). message_places 0 edits.front ++ place_of n count true ∷ []) (sym edits.number)
     ∙ ap (λ (i : ℕ). message_places 0 edits.front ++ place_of edits.entry.number i true ∷ []) at
     ∙ sym (ap (message_places 0) edits.entries ∙ places-message 0 edits.front edits.entry edits.kind)
 
 -- What is kept after a purge.
-pub indexes-dropped : (old new : StoreState) (index : Index) (gone : ObjectId) → IndexesKept (without_blob old.entries gone.0) index → DropsEntries old new gone → IndexesStored new.entries index
+pub indexes-dropped : (old new : StoreState) (index : Index) (gone : ObjectId) → IndexesKept (without_blob old.entries gone) index → DropsEntries old new gone → IndexesStored new.entries index
 indexes-dropped old new index gone indexed drops = indexed new.entries drops.entries
 
-pub places-dropped : (old new : StoreState) (places : List MessagePlace) (gone : ObjectId) → places ≡ message_places 0 (without_blob old.entries gone.0) → DropsEntries old new gone → places ≡ message_places 0 new.entries
-places-dropped old new places gone is drops = is ∙ sym (places-kept 0 (without_blob old.entries gone.0) new.entries drops.entries)
+pub places-dropped : (old new : StoreState) (places : List MessagePlace) (gone : ObjectId) → places ≡ message_places 0 (without_blob old.entries gone) → DropsEntries old new gone → places ≡ message_places 0 new.entries
+places-dropped old new places gone is drops = is ∙ sym (places-kept 0 (without_blob old.entries gone) new.entries drops.entries)

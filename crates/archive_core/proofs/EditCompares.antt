@@ -6,6 +6,9 @@ use Rattle.std.proofs.lemmas.Option.{get_or_from_slice_get, same_Some}
 use Rattle.std.proofs.lemmas.Slice.Eq.{bytes_eq-Decides}
 use Rattle.arch_base.specs.declared.ids.ObjectId.{ObjectId}
 use Rattle.arch_base.specs.declared.ids.Form.TheVariants as form
+use Rattle.arch_base.specs.Ids.{id_eq}
+use Rattle.arch_base.specs.contracts.ids.ObjectIdPartialEq.TheImpl as code
+use Rattle.arch_base.proofs.IdOrder.{id_eq-Decides}
 use Rattle.git_objects.specs.Objects.{blob_id_of}
 use Rattle.mail_reader.specs.declared.storing.StoredRefusal.{StoredRefusal}
 use Rattle.arch_model.specs.Archives.{Archive, live, text_of}
@@ -19,6 +22,7 @@ use Rattle.store_finding.specs.Kept.{StoreState, KeepsArchive}
 use Rattle.archive_core.specs.Commands.{unread_answer}
 use Rattle.archive_core.specs.Numbers.{IsLiveAt}
 use Rattle.archive_core.specs.Rewriting.{ComparesForm}
+use Rattle.archive_core.proofs.SameIds.{same_ids}
 use Rattle.archive_core.proofs.ByBlob.{message-of}
 use Rattle.archive_core.proofs.ByNumber.{entry-text, text-gives}
 
@@ -30,22 +34,22 @@ live-blob v a n i text keeps at shown =
     own.blob ∙ ap (blob_id_of form.Sha1) (same_Some own.entry.text text (sym read ∙ shown))
 
 -- A form with another blob id isn't the text.
-pub compares-other : (v : StoreState) (a : Archive) (n i : ℕ) (seen : List StoredEntry) (e : StoredEntry) (found : ObjectId) (form bytes text : List ℕ) (wanted : Result (List ℕ) StoredRefusal) (r : Bool)
-    → KeepsArchive v a → IsLiveAt v.entries n i → seen ≡ v.entries → wanted ≡ Ok form → found ≡ blob_id_of form.Sha1 bytes → bytes ≡ form → r ≡ not (bytes_eq found.0 (get_or seen i e).seen.blob.0) → r ≡ true → text_of (live a.entries) n ≡ Some text → false ≡ is_form text wanted
-compares-other v a n i seen e found form bytes text wanted r keeps at same form_is found_is bytes_is r_is told shown =
-    by (bytes_eq form text) refl ∙ ap (is_form text) (sym form_is)
+pub compares-other : (v : StoreState) (a : Archive) (n i : ℕ) (seen : List StoredEntry) (e : StoredEntry) (found : ObjectId) (kept bytes text : List ℕ) (wanted : Result (List ℕ) StoredRefusal) (r : Bool)
+    → KeepsArchive v a → IsLiveAt v.entries n i → seen ≡ v.entries → wanted ≡ Ok kept → found ≡ blob_id_of form.Sha1 bytes → bytes ≡ kept → r ≡ not (code.ghosts.eq found (get_or seen i e).seen.blob) → r ≡ true → text_of (live a.entries) n ≡ Some text → false ≡ is_form text wanted
+compares-other v a n i seen e found kept bytes text wanted r keeps at same form_is found_is bytes_is r_is told shown =
+    by (bytes_eq kept text) refl ∙ ap (is_form text) (sym form_is)
   where
     at_entry : get_or seen i e ≡ at.message.entry
     at_entry = ap (λ (l : List StoredEntry). get_or l i e) same ∙ get_or_from_slice_get v.entries i at.message.entry e at.message.there
 
-    by : (t : Bool) → bytes_eq form text ≡ t → false ≡ bytes_eq form text
+    by : (t : Bool) → bytes_eq kept text ≡ t → false ≡ bytes_eq kept text
     by false other = sym other
     by true equal =
-        absurd (let is_text : form ≡ text = (bytes_eq-Decides form text).0 equal in
+        absurd (let is_text : kept ≡ text = (bytes_eq-Decides kept text).0 equal in
         let blob : (get_or seen i e).seen.blob ≡ blob_id_of form.Sha1 text = ap (λ (s : StoredEntry). s.seen.blob) at_entry ∙ live-blob v a n i text keeps at shown in
         let ids : found ≡ (get_or seen i e).seen.blob = found_is ∙ ap (blob_id_of form.Sha1) (bytes_is ∙ is_text) ∙ sym blob in
-        let hit : bytes_eq found.0 (get_or seen i e).seen.blob.0 ≡ true = (bytes_eq-Decides found.0 (get_or seen i e).seen.blob.0).1 (ap (λ (id : ObjectId). id.0) ids) in
-        let wrong : true ≡ false = sym told ∙ r_is ∙ ap not hit in cc)
+        let hit : id_eq found (get_or seen i e).seen.blob ≡ true = (id_eq-Decides found (get_or seen i e).seen.blob).1 ids in
+        let wrong : true ≡ false = sym told ∙ r_is ∙ ap not (same_ids found (get_or seen i e).seen.blob ∙ hit) in cc)
 
 -- A text that was read is compared with the form.
 pub compares-read : (v : StoreState) (a : Archive) (n i : ℕ) (form bytes old new read text : List ℕ) (wanted : Result (List ℕ) StoredRefusal) (r : Bool)

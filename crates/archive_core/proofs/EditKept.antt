@@ -17,7 +17,7 @@ use Rattle.archive_core.proofs.Standing.{store_keeps}
 use Rattle.archive_core.proofs.WithoutText.{index-without, live-message-is, message-agrees, purge-blob, unless-taken}
 
 -- A text that is judged to be taken is what an edit keeps.
-pub taken-kept : {D : Type 0} (content : D → Option Content) (disk : D) (v : StoreState) (index : Index) (blob : ObjectId) (number : ℕ) (bytes text : List ℕ) (arrived n : ℕ) (ids : TextIds) (a : Archive) (cache gone : List ℕ) → MayPurge v number blob → IndexesKept (without_blob v.entries blob.0) index → JudgesOn content disk v index bytes (Take text ids n)
+pub taken-kept : {D : Type 0} (content : D → Option Content) (disk : D) (v : StoreState) (index : Index) (blob : ObjectId) (number : ℕ) (bytes text : List ℕ) (arrived n : ℕ) (ids : TextIds) (a : Archive) (cache gone : List ℕ) → MayPurge v number blob → IndexesKept (without_blob v.entries blob) index → JudgesOn content disk v index bytes (Take text ids n)
     → IsStoreWith v cache a (content disk) → text_of (live a.entries) number ≡ Some gone → KeepsText (without_entries a gone) (unless_refused a (delivered (without_entries a gone) bytes arrived)) arrived text
 taken-kept content disk v index blob number bytes text arrived n ids a cache gone may indexed judges store shown =
     let keeps = store_keeps v cache a (content disk) store in

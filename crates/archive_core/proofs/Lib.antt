@@ -1,4 +1,5 @@
 mod Counting
+mod SameIds
 pub mod Answered
 pub mod Standing
 mod Places

@@ -59,7 +59,7 @@ late-delivery : (reply : Answer) → IsLate reply → AnswersDelivery reply
 late-delivery reply late = late-then reply AnswersDelivery late (λ n. tt) (λ max. tt) (λ n. tt) tt (λ file at. tt) tt
 
 -- The index of the entries that stay is that of the archive without the text.
-edit-index : (v : StoreState) (a : Archive) (n : ℕ) (blob : ObjectId) (index : Index) (gone : List ℕ) → KeepsArchive v a → MayPurge v n blob → IndexesKept (without_blob v.entries blob.0) index → text_of (live a.entries) n ≡ Some gone → IsArchiveIndex (without_entries a gone).entries index
+edit-index : (v : StoreState) (a : Archive) (n : ℕ) (blob : ObjectId) (index : Index) (gone : List ℕ) → KeepsArchive v a → MayPurge v n blob → IndexesKept (without_blob v.entries blob) index → text_of (live a.entries) n ≡ Some gone → IsArchiveIndex (without_entries a gone).entries index
 edit-index v a n blob index gone keeps may indexed shown =
     let is = live-message-is a n gone keeps.valid shown in
     index-without v a index blob gone keeps (message-agrees a n gone keeps.valid is) (purge-blob v a n blob gone keeps may is) indexed
@@ -67,7 +67,7 @@ edit-index v a n blob index gone keeps may indexed shown =
 module _ {D : Type 0} (g : Disk D)
     (only_now : (disk : D) (image : Files) → g.left_since disk (g.moment disk) image → Image (g.content disk) image) where
   -- A delivery in place of a text was refused, after the disk was only read.
-  pub edits-refused : StoreRecovers → (old mid : D) (v : StoreState) (index : Index) (blob : ObjectId) (number : ℕ) (bytes : List ℕ) (arrived : ℕ) (reply : Answer) → MayPurge v number blob → IndexesKept (without_blob v.entries blob.0) index → WhereTold (StoreHasSizes v) (g.content old)
+  pub edits-refused : StoreRecovers → (old mid : D) (v : StoreState) (index : Index) (blob : ObjectId) (number : ℕ) (bytes : List ℕ) (arrived : ℕ) (reply : Answer) → MayPurge v number blob → IndexesKept (without_blob v.entries blob) index → WhereTold (StoreHasSizes v) (g.content old)
       → JudgesOn g.content old v index bytes (Refuse reply) → OnlyLooks g old mid → RoseIf (reply ≡ answer.DiskFault) (g.faults old) (g.faults mid) → TellsEntry v (g.content old) reply → IsLate reply → EditsAs g old mid v v number bytes arrived reply
   edits-refused law old mid v index blob number bytes arrived reply may indexed sizes judges looks cause damage late = record {
     crash = λ a cache gone store room shown. only-read g law v cache [] a (unless_refused a (delivered (without_entries a gone) bytes arrived)).archive (g.content old) old mid store looks.crash;
@@ -109,7 +109,7 @@ module _ {D : Type 0} (g : Disk D)
   }
 
   -- The verdict was to keep a text.
-  module _ (law : StoreRecovers) (old mid new : D) (v after : StoreState) (index : Index) (blob : ObjectId) (number : ℕ) (bytes text : List ℕ) (arrived n : ℕ) (ids : TextIds) (may : MayPurge v number blob) (indexed : IndexesKept (without_blob v.entries blob.0) index)
+  module _ (law : StoreRecovers) (old mid new : D) (v after : StoreState) (index : Index) (blob : ObjectId) (number : ℕ) (bytes text : List ℕ) (arrived n : ℕ) (ids : TextIds) (may : MayPurge v number blob) (indexed : IndexesKept (without_blob v.entries blob) index)
       (judges : JudgesOn g.content old v index bytes (Take text ids n)) (looks : OnlyLooks g old mid) (steady : g.faults mid ≡ g.faults old) where
     -- The archive after it, and that no other text has its blob id.
     taken_is : (a : Archive) (cache gone : List ℕ) → IsStoreWith v cache a (g.content old) → text_of (live a.entries) number ≡ Some gone

@@ -133,25 +133,25 @@ refuses-message v a number index old new (reading.Damaged named found) reply is 
 
 -- The texts are compared as the definition has it.
 pub compares : (a : Archive) (bytes text kept : List ℕ) (blob : ObjectId) (number : ℕ) → BlobsAgree a.entries → Compares a bytes text blob number → ReadsMessage a number (Ok kept) → (moment : ℕ) → delivered a bytes moment ≡ delivered_kept a text moment (unless_same text kept number)
-compares a bytes text kept blob number agree decides reads moment = decides.decides agree kept (reads blob.0 decides.first) moment
+compares a bytes text kept blob number agree decides reads moment = decides.decides agree kept (reads blob decides.first) moment
 
 -- No other text has the blob id of one that is taken: no entry has it, or the first that has it has the
 -- same text.
-pub alone-new : (a : Archive) (index : Index) (text : List ℕ) (ids : TextIds) → IsArchiveIndex a.entries index → ids ≡ text_ids_of form.Sha1 text → number_in index.blobs ids.blob.0 ≡ None → collision a.entries text ≡ None
+pub alone-new : (a : Archive) (index : Index) (text : List ℕ) (ids : TextIds) → IsArchiveIndex a.entries index → ids ≡ text_ids_of form.Sha1 text → number_in index.blobs ids.blob ≡ None → collision a.entries text ≡ None
 alone-new a index text ids indexed ids_are none =
     collision-alone a.entries text
-    (subst (λ (i : TextIds). blob_number a.entries i.blob.0 ≡ None) ids_are (sym (indexed.blobs ids.blob.0) ∙ none))
+    (subst (λ (i : TextIds). blob_number a.entries i.blob ≡ None) ids_are (sym (indexed.blobs ids.blob) ∙ none))
 
 pub alone-final : (a : Archive) (config : Config) (index : Index) (next : ℕ) (verdict : Verdict) → IsArchiveIndex a.entries index → MayTake config index next verdict → IsAlone a verdict
 alone-final a config index next (Take text ids number) indexed may = alone-new a index text ids indexed may.0.comes.ids_are may.1
 alone-final a config index next (Refuse reply) indexed may = tt
 
-pub alone-same : (a : Archive) (config : Config) (index : Index) (next : ℕ) (text kept : List ℕ) (ids : TextIds) (number : ℕ) (verdict : Verdict) → BlobsAgree a.entries → IsArchiveIndex a.entries index → ids ≡ text_ids_of form.Sha1 text → number_in index.blobs ids.blob.0 ≡ Some number → ReadsMessage a number (Ok kept)
+pub alone-same : (a : Archive) (config : Config) (index : Index) (next : ℕ) (text kept : List ℕ) (ids : TextIds) (number : ℕ) (verdict : Verdict) → BlobsAgree a.entries → IsArchiveIndex a.entries index → ids ≡ text_ids_of form.Sha1 text → number_in index.blobs ids.blob ≡ Some number → ReadsMessage a number (Ok kept)
     → TakesThis config next text ids verdict → TakesSame text kept verdict → IsAlone a verdict
 alone-same a config index next text kept ids number (Take taken named n) agree indexed ids_are known reads this same =
-    let first : blob_number a.entries ids.blob.0 ≡ Some number = sym (indexed.blobs ids.blob.0) ∙ known in
-    let at_text : blob_number a.entries (blob_id_of form.Sha1 text).0 ≡ Some number = subst (λ (i : TextIds). blob_number a.entries i.blob.0 ≡ Some number) ids_are first in
-    let read : blob_text a.entries (blob_id_of form.Sha1 text).0 ≡ Some kept = reads (blob_id_of form.Sha1 text).0 at_text in
+    let first : blob_number a.entries ids.blob ≡ Some number = sym (indexed.blobs ids.blob) ∙ known in
+    let at_text : blob_number a.entries (blob_id_of form.Sha1 text) ≡ Some number = subst (λ (i : TextIds). blob_number a.entries i.blob ≡ Some number) ids_are first in
+    let read : blob_text a.entries (blob_id_of form.Sha1 text) ≡ Some kept = reads (blob_id_of form.Sha1 text) at_text in
     let equal : bytes_eq text kept ≡ true = (bytes_eq-Decides text kept).1 (sym same) in
     subst (λ (t : List ℕ). collision a.entries t ≡ None) (sym this.0)
     (collision-first a.entries text kept number agree at_text read ∙ ap (λ (t : Bool). if t then None else Some number) equal)

@@ -8,6 +8,8 @@ use Rattle.std.proofs.lemmas.Slice.Eq.{bytes_eq-Decides}
 use Rattle.arch_base.specs.declared.config.Config.{Config}
 use Rattle.arch_base.specs.declared.ids.ObjectId.{ObjectId}
 use Rattle.arch_base.specs.declared.ids.Form.TheVariants as form
+use Rattle.arch_base.specs.Ids.{id_eq}
+use Rattle.arch_base.proofs.IdOrder.{id_eq-Decides}
 use Rattle.mail_commits.specs.declared.ids.TextIds.{TextIds}
 use Rattle.disk_model.specs.Disk.{Content}
 use Rattle.git_objects.specs.Objects.{blob_id_of}
@@ -75,19 +77,19 @@ pub live-message-is : (a : Archive) (n : ℕ) (text : List ℕ) → IsArchive a 
 live-message-is a n text valid shown = (live-one 1 0 a.entries n text valid.order shown).is
 
 -- Then the test of blob ids is the test of texts.
-tests_same : (text other : List ℕ) → (blob_id_of form.Sha1 other ≡ blob_id_of form.Sha1 text → other ≡ text) → bytes_eq (blob_id_of form.Sha1 text).0 (blob_id_of form.Sha1 other).0 ≡ bytes_eq text other
-tests_same text other agree = by (bytes_eq (blob_id_of form.Sha1 text).0 (blob_id_of form.Sha1 other).0) (bytes_eq text other) refl refl where
-  by : (t u : Bool) → bytes_eq (blob_id_of form.Sha1 text).0 (blob_id_of form.Sha1 other).0 ≡ t → bytes_eq text other ≡ u → t ≡ u
+tests_same : (text other : List ℕ) → (blob_id_of form.Sha1 other ≡ blob_id_of form.Sha1 text → other ≡ text) → id_eq (blob_id_of form.Sha1 text) (blob_id_of form.Sha1 other) ≡ bytes_eq text other
+tests_same text other agree = by (id_eq (blob_id_of form.Sha1 text) (blob_id_of form.Sha1 other)) (bytes_eq text other) refl refl where
+  by : (t u : Bool) → id_eq (blob_id_of form.Sha1 text) (blob_id_of form.Sha1 other) ≡ t → bytes_eq text other ≡ u → t ≡ u
   by true true a b = refl
   by false false a b = refl
   by true false a b =
-      absurd (let ids : (blob_id_of form.Sha1 text).0 ≡ (blob_id_of form.Sha1 other).0 = (bytes_eq-Decides (blob_id_of form.Sha1 text).0 (blob_id_of form.Sha1 other).0).0 a in
-      let same : other ≡ text = agree (ap (λ (bytes : List ℕ). let id : ObjectId = record { 0 = bytes } in id) (sym ids)) in
+      absurd (let ids : blob_id_of form.Sha1 text ≡ blob_id_of form.Sha1 other = (id_eq-Decides (blob_id_of form.Sha1 text) (blob_id_of form.Sha1 other)).0 a in
+      let same : other ≡ text = agree (sym ids) in
       let hit : bytes_eq text other ≡ true = (bytes_eq-Decides text other).1 (sym same) in
       let wrong : true ≡ false = sym hit ∙ b in cc)
   by false true a b =
       absurd (let same : text ≡ other = (bytes_eq-Decides text other).0 b in
-      let hit : bytes_eq (blob_id_of form.Sha1 text).0 (blob_id_of form.Sha1 other).0 ≡ true = (bytes_eq-Decides (blob_id_of form.Sha1 text).0 (blob_id_of form.Sha1 other).0).1 (ap (λ (t : List ℕ). (blob_id_of form.Sha1 t).0) same) in
+      let hit : id_eq (blob_id_of form.Sha1 text) (blob_id_of form.Sha1 other) ≡ true = (id_eq-Decides (blob_id_of form.Sha1 text) (blob_id_of form.Sha1 other)).1 (ap (blob_id_of form.Sha1) same) in
       let wrong : true ≡ false = sym hit ∙ a in cc)
 
 -- The front entry stays, or it goes.
@@ -99,18 +101,18 @@ text-goes text e es same = ap (λ (t : Bool). if not t then e ∷ without_text e
 
 -- What is kept of the entries without a text is what is kept without its blob id, but for places and
 -- commits.
-pub stored-without : (before rest es : List Entry) (text : List ℕ) → AgreesWith text es → AllZip KeptOf (without_blob (stored_after before es) (blob_id_of form.Sha1 text).0) (stored_after rest (without_text es text))
+pub stored-without : (before rest es : List Entry) (text : List ℕ) → AgreesWith text es → AllZip KeptOf (without_blob (stored_after before es) (blob_id_of form.Sha1 text)) (stored_after rest (without_text es text))
 stored-without before rest [] text agree = tt
 stored-without before rest (e ∷ es) text agree = by (bytes_eq text e.text) refl (stored-without (before ++ e ∷ []) rest es text agree.1) (stored-without (before ++ e ∷ []) (rest ++ e ∷ []) es text agree.1) where
-  blob : List ℕ
-  blob = (blob_id_of form.Sha1 text).0
+  blob : ObjectId
+  blob = blob_id_of form.Sha1 text
 
   more : List StoredEntry
   more = stored_after (before ++ e ∷ []) es
 
-  by : (t : Bool) → bytes_eq text e.text ≡ t → AllZip KeptOf (without_blob (stored_after (before ++ e ∷ []) es) (blob_id_of form.Sha1 text).0) (stored_after rest (without_text es text))
-      → AllZip KeptOf (without_blob (stored_after (before ++ e ∷ []) es) (blob_id_of form.Sha1 text).0) (stored_after (rest ++ e ∷ []) (without_text es text))
-      → AllZip KeptOf (without_blob (stored_after before (e ∷ es)) (blob_id_of form.Sha1 text).0) (stored_after rest (without_text (e ∷ es) text))
+  by : (t : Bool) → bytes_eq text e.text ≡ t → AllZip KeptOf (without_blob (stored_after (before ++ e ∷ []) es) (blob_id_of form.Sha1 text)) (stored_after rest (without_text es text))
+      → AllZip KeptOf (without_blob (stored_after (before ++ e ∷ []) es) (blob_id_of form.Sha1 text)) (stored_after (rest ++ e ∷ []) (without_text es text))
+      → AllZip KeptOf (without_blob (stored_after before (e ∷ es)) (blob_id_of form.Sha1 text)) (stored_after rest (without_text (e ∷ es) text))
   by true same gone stays =
       subst (λ (l : List StoredEntry). AllZip KeptOf l (stored_after rest (without_text (e ∷ es) text))) (sym (first-goes blob (stored_at before e) more (tests_same text e.text agree.0 ∙ same)))
       (subst (λ (l : List Entry). AllZip KeptOf (without_blob more blob) (stored_after rest l)) (sym (text-goes text e es same)) gone)
@@ -120,11 +122,11 @@ stored-without before rest (e ∷ es) text agree = by (bytes_eq text e.text) ref
       (record { number = refl; epoch = refl; kind = refl; size = refl; blob = refl; moment = refl; id = refl; content = refl }, stays))
 
 -- The index of what is kept without a blob id is that of the archive without the text.
-pub index-without : (v : StoreState) (a : Archive) (index : Index) (blob : ObjectId) (text : List ℕ) → KeepsArchive v a → AgreesWith text a.entries → blob_id_of form.Sha1 text ≡ blob → IndexesKept (without_blob v.entries blob.0) index → IsArchiveIndex (without_entries a text).entries index
+pub index-without : (v : StoreState) (a : Archive) (index : Index) (blob : ObjectId) (text : List ℕ) → KeepsArchive v a → AgreesWith text a.entries → blob_id_of form.Sha1 text ≡ blob → IndexesKept (without_blob v.entries blob) index → IsArchiveIndex (without_entries a text).entries index
 index-without v a index blob text keeps agree blob_is indexed =
     indexed (stored_after [] (without_text a.entries text))
-    (subst (λ (i : ObjectId). AllZip KeptOf (without_blob v.entries i.0) (stored_after [] (without_text a.entries text))) blob_is
-    (subst (λ (l : List StoredEntry). AllZip KeptOf (without_blob l (blob_id_of form.Sha1 text).0) (stored_after [] (without_text a.entries text))) (sym keeps.kept) (stored-without [] [] a.entries text agree)))
+    (subst (λ (i : ObjectId). AllZip KeptOf (without_blob v.entries i) (stored_after [] (without_text a.entries text))) blob_is
+    (subst (λ (l : List StoredEntry). AllZip KeptOf (without_blob l (blob_id_of form.Sha1 text)) (stored_after [] (without_text a.entries text))) (sym keeps.kept) (stored-without [] [] a.entries text agree)))
     (without_text a.entries text) (record { ordered = in-order (without_entries a text) (valid_without a text keeps.valid); is = refl })
 
 -- The blob id of a message that may be purged is that of its text.
@@ -147,9 +149,9 @@ pub lost-live : (v : StoreState) (a : Archive) (places : List MessagePlace) (los
 lost-live v a places (Some n) blob text keeps placed agree blob_is found =
     let at : IsLiveAt v.entries n found.1.entry = live-found v places placed found.0 n found.1 found.2 found.3 found.4 in
     let own = message-of v a n found.1.entry keeps at.message in
-    let hit : bytes_eq blob.0 at.message.entry.seen.blob.0 ≡ true = sym (ap (λ (o : Option StoredEntry). found_blob o blob) at.message.there) ∙ found.5 in
-    let ids : blob.0 ≡ at.message.entry.seen.blob.0 = (bytes_eq-Decides blob.0 at.message.entry.seen.blob.0).0 hit in
-    let same : blob_id_of form.Sha1 own.entry.text ≡ blob_id_of form.Sha1 text = sym own.blob ∙ ap (λ (bytes : List ℕ). let id : ObjectId = record { 0 = bytes } in id) (sym ids) ∙ sym blob_is in
+    let hit : id_eq blob at.message.entry.seen.blob ≡ true = sym (ap (λ (o : Option StoredEntry). found_blob o blob) at.message.there) ∙ found.5 in
+    let ids : blob ≡ at.message.entry.seen.blob = (id_eq-Decides blob at.message.entry.seen.blob).0 hit in
+    let same : blob_id_of form.Sha1 own.entry.text ≡ blob_id_of form.Sha1 text = sym own.blob ∙ sym ids ∙ sym blob_is in
     let is : own.entry.text ≡ text = all_at (λ (e : Entry). blob_id_of form.Sha1 e.text ≡ blob_id_of form.Sha1 text → e.text ≡ text) a.entries found.1.entry own.entry agree own.there same in
     entry-text v a keeps n found.1.entry at own.entry.text (ap text_if own.there) ∙ ap Some is
 lost-live v a places None blob text keeps placed agree blob_is none = λ n shown.
@@ -158,8 +160,8 @@ lost-live v a places None blob text keeps placed agree blob_is none = λ n shown
     let own = message-of v a n is_live.place.entry keeps at.message in
     let read : text_of (live a.entries) n ≡ Some own.entry.text = entry-text v a keeps n is_live.place.entry at own.entry.text (ap text_if own.there) in
     let same : own.entry.text ≡ text = same_Some own.entry.text text (sym read ∙ shown) in
-    let ids : blob.0 ≡ at.message.entry.seen.blob.0 = ap (λ (i : ObjectId). i.0) (sym blob_is ∙ ap (blob_id_of form.Sha1) (sym same) ∙ sym own.blob) in
-    let hit : has_blob_at v.entries is_live.place.entry blob ≡ true = ap (λ (o : Option StoredEntry). found_blob o blob) at.message.there ∙ (bytes_eq-Decides blob.0 at.message.entry.seen.blob.0).1 ids in
+    let ids : blob ≡ at.message.entry.seen.blob = sym blob_is ∙ ap (blob_id_of form.Sha1) (sym same) ∙ sym own.blob in
+    let hit : has_blob_at v.entries is_live.place.entry blob ≡ true = ap (λ (o : Option StoredEntry). found_blob o blob) at.message.there ∙ (id_eq-Decides blob at.message.entry.seen.blob).1 ids in
     let wrong : true ≡ false = sym hit ∙ none is_live.index is_live.place is_live.there is_live.live_is in
     cc
 
@@ -241,28 +243,28 @@ known-left v a config index next (Some text) keeps config_is next_is indexed = r
 }
 
 -- No entry has the blob id of a text without which all with that blob id are gone.
-none_left : (es : List Entry) (text blob : List ℕ) → blob ≡ (blob_id_of form.Sha1 text).0 → AgreesWith text es → blob_number (without_text es text) blob ≡ None
+none_left : (es : List Entry) (text : List ℕ) (blob : ObjectId) → blob ≡ blob_id_of form.Sha1 text → AgreesWith text es → blob_number (without_text es text) blob ≡ None
 none_left [] text blob is agree = refl
 none_left (e ∷ es) text blob is agree = by (bytes_eq text e.text) refl (none_left es text blob is agree.1) where
   by : (t : Bool) → bytes_eq text e.text ≡ t → blob_number (without_text es text) blob ≡ None → blob_number (without_text (e ∷ es) text) blob ≡ None
   by true same rest = ap (λ (l : List Entry). blob_number l blob) (text-goes text e es same) ∙ rest
   by false other rest =
-      let miss : bytes_eq blob (blob_id_of form.Sha1 e.text).0 ≡ false = ap (λ (b : List ℕ). bytes_eq b (blob_id_of form.Sha1 e.text).0) is ∙ tests_same text e.text agree.0 ∙ other in
+      let miss : id_eq blob (blob_id_of form.Sha1 e.text) ≡ false = ap (λ (b : ObjectId). id_eq b (blob_id_of form.Sha1 e.text)) is ∙ tests_same text e.text agree.0 ∙ other in
       ap (λ (l : List Entry). blob_number l blob) (text-stays text e es other)
       ∙ ap (λ (t : Bool). if t then Some e.number else blob_number (without_text es text) blob) miss
       ∙ rest
 
 -- A number that has a blob id first without a text had it first before, with the same text.
-abbrev pub StaysFirst : List Entry → List ℕ → List ℕ → ℕ → Type 0
+abbrev pub StaysFirst : List Entry → List ℕ → ObjectId → ℕ → Type 0
 StaysFirst es text blob n = (blob_number es blob ≡ Some n) × (blob_text es blob ≡ blob_text (without_text es text) blob)
 
-first_still : (es : List Entry) (text blob : List ℕ) (n : ℕ) → BlobsAgree es → blob_number (without_text es text) blob ≡ Some n → StaysFirst es text blob n
+first_still : (es : List Entry) (text : List ℕ) (blob : ObjectId) (n : ℕ) → BlobsAgree es → blob_number (without_text es text) blob ≡ Some n → StaysFirst es text blob n
 first_still [] text blob n agree is = absurd (cc)
-first_still (e ∷ es) text blob n agree is = by (bytes_eq text e.text) (bytes_eq blob (blob_id_of form.Sha1 e.text).0) refl refl (first_still es text blob n agree.1) where
-  by : (t u : Bool) → bytes_eq text e.text ≡ t → bytes_eq blob (blob_id_of form.Sha1 e.text).0 ≡ u → (blob_number (without_text es text) blob ≡ Some n → StaysFirst es text blob n) → StaysFirst (e ∷ es) text blob n
+first_still (e ∷ es) text blob n agree is = by (bytes_eq text e.text) (id_eq blob (blob_id_of form.Sha1 e.text)) refl refl (first_still es text blob n agree.1) where
+  by : (t u : Bool) → bytes_eq text e.text ≡ t → id_eq blob (blob_id_of form.Sha1 e.text) ≡ u → (blob_number (without_text es text) blob ≡ Some n → StaysFirst es text blob n) → StaysFirst (e ∷ es) text blob n
   by true true same hit rest =
       let is_text : text ≡ e.text = (bytes_eq-Decides text e.text).0 same in
-      let its : blob ≡ (blob_id_of form.Sha1 text).0 = (bytes_eq-Decides blob (blob_id_of form.Sha1 e.text).0).0 hit ∙ ap (λ (t : List ℕ). (blob_id_of form.Sha1 t).0) (sym is_text) in
+      let its : blob ≡ blob_id_of form.Sha1 text = (id_eq-Decides blob (blob_id_of form.Sha1 e.text)).0 hit ∙ ap (blob_id_of form.Sha1) (sym is_text) in
       let none : blob_number (without_text es text) blob ≡ None = none_left es text blob its (subst (λ (t : List ℕ). AgreesWith t es) (sym is_text) agree.0) in
       let found : blob_number (without_text es text) blob ≡ Some n = sym (ap (λ (l : List Entry). blob_number l blob) (text-goes text e es same)) ∙ is in
       absurd (let wrong : None ≡ Some n = sym none ∙ found in cc)
@@ -311,7 +313,7 @@ id_of : (o : Option (List ℕ)) → IsSome o → o ≡ Some (unwrap_or o [])
 id_of None some = absurd (let wrong : false ≡ true = some in cc)
 id_of (Some id) some = refl
 
-pub may-replace : (v : StoreState) (index : Index) (old : ObjectId) (ids : TextIds) (n number : ℕ) (text : List ℕ) → MayPurge v n old → IndexesKept (without_blob v.entries old.0) index → MayBeKept v.root.config index v.root.next text ids number → MayReplace v old text ids
+pub may-replace : (v : StoreState) (index : Index) (old : ObjectId) (ids : TextIds) (n number : ℕ) (text : List ℕ) → MayPurge v n old → IndexesKept (without_blob v.entries old) index → MayBeKept v.root.config index v.root.next text ids number → MayReplace v old text ids
 may-replace v index old ids n number text purge indexed kept = record {
   number = n;
   edit = record {

@@ -3,6 +3,7 @@ use Rattle.std.specs.Prelude.{◌≡◌, ◌+◌, ◌-◌, ◌<◌, ◌^◌, ℕ
 use Rattle.std.specs.List.{Contains}
 use Rattle.arch_base.specs.Counts.{RoseIf}
 use Rattle.arch_base.specs.declared.ids.Form.TheVariants as form
+use Rattle.arch_base.specs.declared.ids.ObjectId.{ObjectId}
 use Rattle.disk_model.specs.declared.disk.Disk.{Ghosts as Disk}
 use Rattle.disk_model.specs.Disk.{Content, WhereTold, BothTold, Unchanged, Image}
 use Rattle.disk_model.specs.Moments.{LeavesOnly}
@@ -208,7 +209,7 @@ IsTextAt entries index text = (e : StoredEntry) → slice_get entries index ≡ 
 -- The result of reading the text of the message with a number: it is that of each blob id of which the
 -- message is the first entry. On the disk of an archive nothing is damaged.
 abbrev pub ReadsMessage : Archive → ℕ → Result (List ℕ) Answer → Type 0
-ReadsMessage a number (Ok text) = (blob : List ℕ) → blob_number a.entries blob ≡ Some number
+ReadsMessage a number (Ok text) = (blob : ObjectId) → blob_number a.entries blob ≡ Some number
     → blob_text a.entries blob ≡ Some text
 ReadsMessage a number (Err answer.DiskFault) = Unit {0}
 ReadsMessage a number (Err answer.NoMemory) = Unit {0}

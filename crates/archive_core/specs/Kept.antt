@@ -36,7 +36,7 @@ PutsText old new text blob number = (id : List ℕ) → own_id text ≡ Some id
 abbrev pub TakesBackText : Index → Index → List ℕ → ObjectId → ℕ → Option ℕ → Type 0
 TakesBackText put new text blob number older = (old : Index) (id : List ℕ) → own_id text ≡ Some id
     → IndexPuts old put id blob (record { number = number; content = content_id_of text })
-    → owner_in old.owners id ≡ None → number_in old.blobs blob.0 ≡ older → HasSame old new
+    → owner_in old.owners id ≡ None → number_in old.blobs blob ≡ older → HasSame old new
 
 -- A text's own id was removed from an index.
 abbrev pub LosesText : Index → Index → List ℕ → Type 0

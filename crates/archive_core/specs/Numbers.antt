@@ -38,7 +38,7 @@ HasBlobAt entries id index = (e : StoredEntry) × (slice_get entries index ≡ S
     × (e.seen.blob ≡ id)
 
 -- The entry at this index has the text of a blob id, or no entry has one.
-abbrev pub IsBlobIndex : List Entry → List ℕ → Option ℕ → Type 0
+abbrev pub IsBlobIndex : List Entry → ObjectId → Option ℕ → Type 0
 IsBlobIndex entries blob None = blob_text entries blob ≡ None
 IsBlobIndex entries blob (Some index) = blob_text entries blob ≡ text_if (slice_get entries index)
 

@@ -1,7 +1,7 @@
 -- Where the messages among the entries of a store are.
 use Rattle.std.specs.Prelude.{◌≡◌, ◌≢◌, ◌+◌, ◌≤◌, ◌==◌, ◌&&◌, ◌||◌, ℕ, Bool, true, false, not, List, [], ◌∷◌, ◌++◌, slice_get, Option, Some, None, if◌then◌else◌}
 use Rattle.std.specs.List.{list_any}
-use Rattle.std.specs.Str.{bytes_eq}
+use Rattle.arch_base.specs.Ids.{id_eq}
 use Rattle.arch_base.specs.declared.ids.ObjectId.{ObjectId}
 use Rattle.std.specs.Ordering.{nat_cmp}
 use Rattle.std.specs.BTreeSet.{BTreeSet, contains}
@@ -81,7 +81,7 @@ IsPlaceOfNumber places number None = PlacesRise places
 -- An entry, if there is one, has a blob id.
 abbrev pub found_blob : Option StoredEntry → ObjectId → Bool
 found_blob None blob = false
-found_blob (Some e) blob = bytes_eq blob.0 e.seen.blob.0
+found_blob (Some e) blob = id_eq blob e.seen.blob
 
 -- The entry at an index has a blob id.
 abbrev pub has_blob_at : List StoredEntry → ℕ → ObjectId → Bool

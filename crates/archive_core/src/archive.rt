@@ -31,7 +31,7 @@ ghost use Rattle.archive_core.specs.Commands.{DoneBy, OnDone, OnRefusal, UnlessF
 
 use crate::placing::{MessagePlace, are_rising, end_place, may_follow, places_of};
 use crate::texts::{KeptText, end_text, put_text, take_text};
-use arch_base::{Bytes, Config, NoMemory};
+use arch_base::{Bytes, Config, Form, NoMemory};
 use arch_judge::{Index, Judgement, Verdict, compared, judge};
 use arch_model::{Answer, Command, OpenRefusal, TextRefusal};
 use disk_model::Disk;
@@ -392,7 +392,7 @@ impl DiskArchive {
         if !self.is_named(index, text) {
             return self.damaged(index);
         }
-        let ids = text_ids(text);
+        let ids = text_ids(text, Form::Sha1);
         match self
             .store
             .remove_entry(self.alloc, disk, number, text, &ids, moment)

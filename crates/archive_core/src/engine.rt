@@ -312,7 +312,7 @@ impl<D: Disk> Shelf for Engine<D> {
     fn blob(&mut self, id: &ObjectId, into: &mut Bytes) -> Result<bool, TextRefusal>
         requires ready { is_ready self.old ≡ true }
         ensures blob { (a : Archive) → HoldsArchive D.content self.old a
-            → GivesBlobIn a.entries id.now.0 into.old into.new result }
+            → GivesBlobIn a.entries id.now into.old into.new result }
         ensures kept { KeepsUnlessFound into.old into.new result }
         ensures appends { AppendsTo into.old into.new }
         ensures shelf { ShelfStays (HoldsArchive D.content) is_ready

@@ -15,7 +15,7 @@ pub(crate) fn index_without(
     entries: &[StoredEntry],
     blob: &ObjectId,
 ) -> Result<Index, NoMemory>
-    ensures { IfOk result (λ index. IndexesKept (without_blob entries.now blob.now.0) index) }
+    ensures { IfOk result (λ index. IndexesKept (without_blob entries.now blob.now) index) }
 {
     let mut index = Index::new(alloc);
     for entry in entries {

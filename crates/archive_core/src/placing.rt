@@ -40,7 +40,7 @@ pub(crate) fn places_of(
 
 /// Returns the number of the entries without a blob id.
 pub(crate) fn count_without(entries: &[StoredEntry], blob: &ObjectId) -> usize
-    ensures { result ≡ length (without_blob entries.now blob.now.0) }
+    ensures { result ≡ length (without_blob entries.now blob.now) }
 {
     entries
         .iter()
@@ -56,7 +56,7 @@ pub(crate) fn places_without(
     blob: &ObjectId,
 ) -> Result<Vec<MessagePlace>, NoMemory>
     ensures { IfOk result (λ places.
-        places.items ≡ message_places 0 (without_blob entries.now blob.now.0)) }
+        places.items ≡ message_places 0 (without_blob entries.now blob.now)) }
 {
     let mut places = Vec::new(alloc);
     let mut ended = BTreeSet::new(alloc);

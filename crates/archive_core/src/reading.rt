@@ -114,7 +114,7 @@ impl DiskArchive {
     ) -> Result<bool, TextRefusal>
         ensures blob { (a : Archive) (cache : List ℕ)
             → IsStoreWith self.now cache a (D.content disk.old)
-            → GivesBlobIn a.entries id.now.0 into.old into.new result }
+            → GivesBlobIn a.entries id.now into.old into.new result }
         ensures read { GivesBlobKept self.now (D.content disk.old) id.now into.old into.new result }
         ensures named { NamesId id.now result }
         ensures other { TellsOther result }
@@ -140,7 +140,7 @@ impl DiskArchive {
     fn blob_index(&self, id: &ObjectId) -> Option<u64>
         ensures known { IfSome result (HasBlobAt self.now.entries id.now) }
         ensures index { (a : Archive) → KeepsArchive self.now a
-            → IsBlobIndex a.entries id.now.0 result }
+            → IsBlobIndex a.entries id.now result }
     {
         let Some(number) = self.number_of(id) else {
             return None;
@@ -167,7 +167,7 @@ impl DiskArchive {
 
     /// Returns the number of the first entry with a blob id.
     fn number_of(&self, id: &ObjectId) -> Option<u32>
-        ensures { (a : Archive) → KeepsArchive self.now a → result ≡ blob_number a.entries id.now.0 }
+        ensures { (a : Archive) → KeepsArchive self.now a → result ≡ blob_number a.entries id.now }
     {
         self.index.number(id)
     }

@@ -24,7 +24,7 @@ use crate::archive::{DiskArchive, answer_of};
 use crate::entries::index_without;
 use crate::placing::{MessagePlace, count_without, live_with, may_follow, places_without};
 use crate::texts::{KeptText, put_text};
-use arch_base::{Bytes, ObjectId};
+use arch_base::{Bytes, Form, ObjectId};
 use arch_judge::{Index, Verdict};
 use arch_model::Answer;
 use disk_model::Disk;
@@ -173,7 +173,7 @@ impl DiskArchive {
             Err(StoredRefusal::NoMemory) => return Err(Answer::NoMemory),
             Ok(form) => form,
         };
-        if blob_id(form.as_slice()) != self.store.stored()[index as usize].seen.blob {
+        if blob_id(form.as_slice(), Form::Sha1) != self.store.stored()[index as usize].seen.blob {
             return Ok(false);
         }
         let mut text = Bytes::new(self.alloc);
@@ -252,7 +252,7 @@ impl DiskArchive {
         moment: u64,
     ) -> Result<(), StoreRefusal>
         requires may { MayReplace self.old old.now text.now ids.now }
-        requires index { IndexesKept (without_blob self.old.entries old.now.0) index }
+        requires index { IndexesKept (without_blob self.old.entries old.now) index }
         requires moment { moment ≤ last_moment }
         requires sizes { WhereTold (StoreHasSizes self.old) (D.content disk.old) }
         ensures changes { ChangesStore D.Disk disk.old disk.new

@@ -1,7 +1,7 @@
 //! Archives in memory and on disks, as tests make and ask them.
 ghost use Rattle.std.specs.Prelude.{◌≤◌};
 
-use arch_base::{Bytes, LAST_MOMENT, id_of_hex};
+use arch_base::{Bytes, Form, LAST_MOMENT, id_of_hex};
 use arch_model::{Answer, Command, EntryLine, Keep, OpenRefusal};
 use archive_core::{Engine, NotMade, NotOpened};
 use disk_model::MemDisk;
@@ -54,7 +54,7 @@ pub fn opened(alloc: Global, disk: MemDisk) -> Result<Engine<MemDisk>, OpenRefus
 
 /// Returns the answer to what is kept under this number with this blob id.
 pub fn accepted(number: u32, hex: &[u8]) -> Option<Answer> {
-    let id = id_of_hex(hex)?;
+    let id = id_of_hex(hex, Form::Sha1)?;
     Some(Answer::Ok { number, id })
 }
 
@@ -115,7 +115,7 @@ pub fn epoch_len<K: Keep>(alloc: Global, keep: &mut K, epoch: u32) -> Result<Opt
 
 /// Appends the text of a blob id, and returns whether an entry has it.
 pub fn put_blob<K: Keep>(keep: &mut K, hex: &[u8], into: &mut Bytes) -> Result<bool, Fail> {
-    let id = id_of_hex(hex).ok_or("no id")?;
+    let id = id_of_hex(hex, Form::Sha1).ok_or("no id")?;
     keep.fresh()?;
     Ok(keep.blob(&id, into)?)
 }
@@ -138,8 +138,8 @@ pub fn is_entry(entry: Option<EntryLine>, kind: EntryKind, number: u32, commit: 
         return false;
     };
     let named = line.kind == kind && line.number == number;
-    let kept = Some(line.blob) == id_of_hex(FIRST_ID);
-    named && kept && Some(line.commit) == id_of_hex(commit)
+    let kept = Some(line.blob) == id_of_hex(FIRST_ID, Form::Sha1);
+    named && kept && Some(line.commit) == id_of_hex(commit, Form::Sha1)
 }
 
 /// Returns whether the first mail and its removal are the two entries, in an epoch of 672 bytes.

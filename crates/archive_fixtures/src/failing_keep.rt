@@ -6,7 +6,7 @@ ghost use Rattle.arch_model.specs.Shelves.{ReadingWhy};
 ghost use Rattle.arch_model.specs.Untold.{FindsUntold, HoldsNone, LeavesUntold, TakesUntold, untold-read};
 ghost use Rattle.arch_base.specs.Moments.{last_moment};
 
-use arch_base::{Bytes, Config, ObjectId, MessageNumbers, NoMemory, ObjectId};
+use arch_base::{Bytes, Config, MessageNumbers, NoMemory, ObjectId};
 use arch_model::{Answer, Command, EntryLine, Keep, OpenRefusal, Query, Row, Shelf, TextRefusal};
 use disk_model::{FileKind, FileName};
 use mem_archive::MemArchive;
@@ -45,13 +45,13 @@ pub enum Failing {
 }
 
 /// The id of each text that is damaged: df7a16e6b23ee491f39d84e89298f10b0d4ae4e0.
-const NAMED: ObjectId = ObjectId([
+const NAMED: ObjectId = ObjectId::Sha1([
     0xdf, 0x7a, 0x16, 0xe6, 0xb2, 0x3e, 0xe4, 0x91, 0xf3, 0x9d, 0x84, 0xe8, 0x92, 0x98, 0xf1, 0x0b,
     0x0d, 0x4a, 0xe4, 0xe0,
 ]);
 
 /// The id of what is found in its place: 1d023c572ccd6f3cc82ae855343346b043adaba5.
-const FOUND: ObjectId = ObjectId([
+const FOUND: ObjectId = ObjectId::Sha1([
     0x1d, 0x02, 0x3c, 0x57, 0x2c, 0xcd, 0x6f, 0x3c, 0xc8, 0x2a, 0xe8, 0x55, 0x34, 0x33, 0x46, 0xb0,
     0x43, 0xad, 0xab, 0xa5,
 ]);

@@ -1,5 +1,5 @@
 //! An archive that owns its disk, by the trait of keepers: what it gives.
-use arch_base::{Bytes, id_of_hex};
+use arch_base::{Bytes, Form, id_of_hex};
 use arch_model::{Answer, Command, EntryLine, Keep, OpenRefusal};
 use archive_core::{Engine, NotMade, NotOpened};
 use archive_fixtures::{
@@ -58,7 +58,7 @@ fn is_line(entry: Option<EntryLine>, number: u32, epoch: u32, hex: &[u8], text: 
         return false;
     };
     let placed = line.number == number && line.epoch == epoch && line.secs == MOMENT;
-    placed && Some(line.blob) == id_of_hex(hex) && line.size == text.len() as u64
+    placed && Some(line.blob) == id_of_hex(hex, Form::Sha1) && line.size == text.len() as u64
 }
 
 /// Returns whether a keeper has two messages as its entries, the second one in a second epoch, and

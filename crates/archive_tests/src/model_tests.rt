@@ -1,5 +1,5 @@
 //! Deliveries in memory, answer by answer, against texts and ids worked out by hand and by git.
-use arch_base::{Bytes, Config, NoMemory};
+use arch_base::{Bytes, Config, Form, NoMemory};
 use arch_judge::{Index, Judgement, Owner, Verdict, compared, judge};
 use arch_model::{Answer, Command};
 use archive_fixtures::{accepted, in_memory, two_in_memory};
@@ -71,7 +71,7 @@ fn index_of_first(alloc: Global) -> Option<Index> {
         number: 1,
         content: content_id(FIRST),
     };
-    index.insert(id, blob_id(FIRST), owner).ok()?;
+    index.insert(id, blob_id(FIRST, Form::Sha1), owner).ok()?;
     Some(index)
 }
 
@@ -79,8 +79,8 @@ fn index_of_first(alloc: Global) -> Option<Index> {
 fn finds_first_alone(index: &Index) -> bool {
     let by_id = matches!(index.owner(b"<a@x>"), Some(Owner { number: 1, .. }));
     let other_id = index.owner(b"<b@x>").is_none();
-    let by_blob = index.number(&blob_id(FIRST)) == Some(1);
-    let other_blob = index.number(&blob_id(SECOND)).is_none();
+    let by_blob = index.number(&blob_id(FIRST, Form::Sha1)) == Some(1);
+    let other_blob = index.number(&blob_id(SECOND, Form::Sha1)).is_none();
     by_id && other_id && by_blob && other_blob
 }
 
@@ -103,7 +103,8 @@ fn takes_second(alloc: Global, config: &Config, index: &Index) -> bool {
     match judge(alloc, config, index, 2, SECOND) {
         Judgement::Final(Verdict::Refuse(_)) | Judgement::Compare { .. } => false,
         Judgement::Final(Verdict::Take { text, ids, number }) => {
-            let known = ids.blob == blob_id(SECOND) && ids.content == content_id(SECOND);
+            let known = ids.blob == blob_id(SECOND, Form::Sha1)
+                && ids.content == content_id(SECOND);
             text.as_slice() == SECOND && known && number == 2
         }
     }

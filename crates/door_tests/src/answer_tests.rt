@@ -1,6 +1,6 @@
 //! The line of each kind of answer, by examples.
 use answer_lines::{say_answer, say_damage, say_memory, say_number, say_unopened, say_unread};
-use arch_base::{Numbers, ObjectId, id_of_hex};
+use arch_base::{Form, Numbers, ObjectId, id_of_hex};
 use arch_model::{Answer, OpenRefusal, TextRefusal};
 use disk_model::{FileKind, FileName};
 use edge_io::{MemSink, SinkFault};
@@ -74,8 +74,8 @@ fn says_ids(sink: &mut MemSink, one: ObjectId, two: ObjectId) -> Result<bool, Si
 #[test]
 fn ids_are_in_hexadecimal(rt: HostRuntime) -> Result<(), SinkFault> {
     let mut sink = MemSink::new(rt.alloc(), Numbers::new(rt.alloc()));
-    let one = id_of_hex(b"1d023c572ccd6f3cc82ae855343346b043adaba5");
-    let two = id_of_hex(b"d621b450ae1fbf27a31c9879d84eb9de5473a8b9");
+    let one = id_of_hex(b"1d023c572ccd6f3cc82ae855343346b043adaba5", Form::Sha1);
+    let two = id_of_hex(b"d621b450ae1fbf27a31c9879d84eb9de5473a8b9", Form::Sha1);
     match (one, two) {
         (Some(one), Some(two)) => assert!(rt; says_ids(&mut sink, one, two)?),
         _ => assert!(rt; false),

@@ -8,7 +8,7 @@
 
 ghost use Rattle.std.specs.Prelude.{◌<◌, length, IfSome};
 
-use arch_base::{Bytes, Name, NoMemory, decimal, read_decimal};
+use arch_base::{Bytes, Form, Name, NoMemory, decimal, read_decimal};
 use atom_mbox::{mbox_piece, push_feed_end, push_feed_entry, push_feed_start};
 use mail_commits::text_ids;
 use mail_reader::{StoredRefusal, body, is_stored, stored};
@@ -105,7 +105,7 @@ fn add_text(
     if !is_stored(text) {
         return Ok(());
     }
-    let row = row_of(alloc, 1, &text_ids(text), text, ARRIVED)?;
+    let row = row_of(alloc, 1, &text_ids(text, Form::Sha1), text, ARRIVED)?;
     push_part(alloc, b"text ", text, &mut printed.texts)?;
     mbox_piece(text, &mut printed.mbox)?;
     if row.arrived == ARRIVED {

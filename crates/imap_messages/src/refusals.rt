@@ -38,7 +38,12 @@ pub(crate) fn say_unread<'a, O: Sink>(
     match refusal {
         TextRefusal::DiskFault => say_no(tag, b"disk fault", out),
         TextRefusal::Damaged { named, found } => {
-            say_damaged(tag, &hex_of(&named), &hex_of(&found), out)
+            say_damaged(
+                tag,
+                hex_of(&named).as_slice(),
+                hex_of(&found).as_slice(),
+                out,
+            )
         }
         TextRefusal::NoMemory => say_no(tag, b"out of memory", out),
     }

@@ -2,7 +2,7 @@
 ghost use Rattle.std.specs.Prelude.{IfSome};
 ghost use Rattle.atom_mbox.specs.Feeds.{HasMoment};
 
-use arch_base::{Bytes, LAST_MOMENT, Name, NoMemory};
+use arch_base::{Bytes, Form, LAST_MOMENT, Name, NoMemory};
 use atom_mbox::{Shown, feed, updated};
 use mail_commits::text_ids;
 use mail_reader::is_stored;
@@ -69,7 +69,14 @@ fn shown(alloc: Global, case: &EntryCase) -> Option<Shown>
     if !is_stored(case.text) {
         return None;
     }
-    let row = row_of(alloc, 1, &text_ids(case.text), case.text, case.arrived).ok()?;
+    let row = row_of(
+        alloc,
+        1,
+        &text_ids(case.text, Form::Sha1),
+        case.text,
+        case.arrived,
+    )
+    .ok()?;
     if row.arrived > LAST_MOMENT {
         return None;
     }

@@ -1,5 +1,5 @@
 //! Mailbox files, worked out from the rules.
-use arch_base::{Bytes, NoMemory};
+use arch_base::{Bytes, Form, NoMemory};
 use atom_mbox::{mbox_len, mbox_piece};
 use fixtures::FIRST;
 use mail_commits::text_ids;
@@ -115,7 +115,14 @@ fn first_row(alloc: Global, number: u32) -> Option<Row> {
     if !is_stored(FIRST) {
         return None;
     }
-    row_of(alloc, number, &text_ids(FIRST), FIRST, 1_706_781_700).ok()
+    row_of(
+        alloc,
+        number,
+        &text_ids(FIRST, Form::Sha1),
+        FIRST,
+        1_706_781_700,
+    )
+    .ok()
 }
 
 #[test]

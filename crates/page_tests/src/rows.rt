@@ -1,5 +1,5 @@
 //! Rows of mails, and what pages are.
-use arch_base::{Bytes, Name};
+use arch_base::{Bytes, Form, Name};
 use mail_commits::text_ids;
 use mail_forms::Row;
 use mail_reader::is_stored;
@@ -17,7 +17,7 @@ pub(crate) fn row(alloc: Global, text: &[u8]) -> Option<Row> {
     if !is_stored(text) {
         return None;
     }
-    row_of(alloc, 1, &text_ids(text), text, 1_706_781_700).ok()
+    row_of(alloc, 1, &text_ids(text, Form::Sha1), text, 1_706_781_700).ok()
 }
 
 /// Returns whether a page is the wanted one.

@@ -5,4 +5,4 @@ use Rattle.store_planning.specs.Dropping.{without_blob}
 use Rattle.archive_core.proofs.entries.index_without.Given as goal
 
 abbrev pub invariant-loop-entry : goal.invariant-loop-entry
-invariant-loop-entry l = IndexesKept (without_blob (take l.entry-index l.entries) l.blob.0) l.index
+invariant-loop-entry l = IndexesKept (without_blob (take l.entry-index l.entries) l.blob) l.index

@@ -16,4 +16,4 @@ returns-then-not-has_blob-clause-index c = λ a keeps.
 
 pub returns-clause-index : goal.returns-clause-index
 returns-clause-index c = λ a keeps.
-    blob-index c.args.self.now a c.args.id.now.0 c.in-Some.number c.in-Some-message_index.index keeps (c.in-Some.ensures a keeps) c.in-Some-message_index.ensures.known
+    blob-index c.args.self.now a c.args.id.now c.in-Some.number c.in-Some-message_index.index keeps (c.in-Some.ensures a keeps) c.in-Some-message_index.ensures.known

@@ -20,12 +20,12 @@ pub invariant_of-self : goal.invariant_of-self
 invariant_of-self g c =
     let gone = c.args.blob.now in
     let old : StoreState = c.self.inside.store in
-    let indexed : IndexesKept (without_blob old.entries gone.0) c.in-Ok.index = subst (λ (es : List StoredEntry). IndexesKept (without_blob es gone.0) c.in-Ok.index) c.stored.ensures c.in-Ok.ensures in
-    let placed : c.in-Ok-places_without.places.items ≡ message_places 0 (without_blob old.entries gone.0) = c.in-Ok-places_without.ensures ∙ ap (λ (es : List StoredEntry). message_places 0 (without_blob es gone.0)) c.stored-2.ensures in
+    let indexed : IndexesKept (without_blob old.entries gone) c.in-Ok.index = subst (λ (es : List StoredEntry). IndexesKept (without_blob es gone) c.in-Ok.index) c.stored.ensures c.in-Ok.ensures in
+    let placed : c.in-Ok-places_without.places.items ≡ message_places 0 (without_blob old.entries gone) = c.in-Ok-places_without.ensures ∙ ap (λ (es : List StoredEntry). message_places 0 (without_blob es gone)) c.stored-2.ensures in
     let rise : PlacesRise (message_places 0 old.entries) = subst PlacesRise c.self.invariant.1 c.self.invariant.2 in (
       indexes-dropped old c.purge_text.new.self c.in-Ok.index gone indexed c.in-Ok-purge_text.ensures.dropped,
       places-dropped old c.purge_text.new.self c.in-Ok-places_without.places.items gone placed c.in-Ok-purge_text.ensures.dropped,
-      subst PlacesRise (sym placed) (rises-without gone.0 old.entries 0 0 0 rise),
+      subst PlacesRise (sym placed) (rises-without gone old.entries 0 0 0 rise),
     )
 
 pub returns-in-Ok-purge_text-clause-lives : goal.returns-in-Ok-purge_text-clause-lives

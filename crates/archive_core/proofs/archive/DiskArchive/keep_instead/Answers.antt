@@ -29,21 +29,21 @@ invariant_of-self g c =
     let gone = c.args.old.now in
     let old : StoreState = c.self.inside.store in
     let number : c.next_number-new.result ≡ old.root.next = c.next_number-new.ensures in
-    let indexed : IndexesKept (without_blob old.entries gone.0) c.args.index = subst (λ (v : StoreState). IndexesKept (without_blob v.entries gone.0) c.args.index) (sym c.self.view_is) c.requires.index in
+    let indexed : IndexesKept (without_blob old.entries gone) c.args.index = subst (λ (v : StoreState). IndexesKept (without_blob v.entries gone) c.args.index) (sym c.self.view_is) c.requires.index in
     let puts : PutsText c.args.index c.put_text.new.index c.args.text.now c.args.ids.now.blob old.root.next = subst (λ (n : ℕ). PutsText c.args.index c.put_text.new.index c.args.text.now c.args.ids.now.blob n) number c.in-Ok.ensures.ok in
-    let placed : c.in-Ok-places_without.places.items ≡ message_places 0 (without_blob old.entries gone.0) = c.in-Ok-places_without.ensures ∙ ap (λ (es : List StoredEntry). message_places 0 (without_blob es gone.0)) c.stored.ensures in
-    let count : c.count_without-entry.result ≡ length (without_blob old.entries gone.0) = c.count_without-entry.ensures ∙ ap (λ (es : List StoredEntry). length (without_blob es gone.0)) c.stored-2.ensures in
+    let placed : c.in-Ok-places_without.places.items ≡ message_places 0 (without_blob old.entries gone) = c.in-Ok-places_without.ensures ∙ ap (λ (es : List StoredEntry). message_places 0 (without_blob es gone)) c.stored.ensures in
+    let count : c.count_without-entry.result ≡ length (without_blob old.entries gone) = c.count_without-entry.ensures ∙ ap (λ (es : List StoredEntry). length (without_blob es gone)) c.stored-2.ensures in
     let rise : PlacesRise (message_places 0 old.entries) = subst PlacesRise c.self.invariant.1 c.self.invariant.2 in
     let last : MessagePlace = record { number = c.next_number-new.result; entry = c.count_without-entry.result; live = true } in
     let more : c.push.new.self.items ≡ c.in-Ok-places_without.places.items ++ last ∷ [] = c.in-Ok-push.ensures.items in (
       indexes-edited old c.edit_text.new.self c.args.index c.put_text.new.index gone c.args.ids.now.blob c.args.text.now indexed (ap (λ (i : TextIds). i.blob) c.requires.may.ids_are) puts c.in-Ok-edit_text.ensures.edited,
       more
           ∙ ap (λ (ps : List MessagePlace). ps ++ last ∷ []) placed
-          ∙ ap (λ (n : ℕ). message_places 0 (without_blob old.entries gone.0) ++ place_of n c.count_without-entry.result true ∷ []) number
+          ∙ ap (λ (n : ℕ). message_places 0 (without_blob old.entries gone) ++ place_of n c.count_without-entry.result true ∷ []) number
           ∙ places-edited old c.edit_text.new.self gone c.args.text.now c.count_without-entry.result count c.in-Ok-edit_text.ensures.edited,
       subst PlacesRise (sym more)
           (subst (λ (ps : List MessagePlace). PlacesRise (ps ++ last ∷ [])) c.as_slice.ensures.value
-          (c.may_follow.ensures (search rules) c.count_without-entry.result (subst PlacesRise (sym (c.as_slice.ensures.value ∙ placed)) (rises-without gone.0 old.entries 0 0 0 rise)))),
+          (c.may_follow.ensures (search rules) c.count_without-entry.result (subst PlacesRise (sym (c.as_slice.ensures.value ∙ placed)) (rises-without gone old.entries 0 0 0 rise)))),
     )
 
 pub returns-in-Ok-edit_text-clause-changes : goal.returns-in-Ok-edit_text-clause-changes
