@@ -10,6 +10,7 @@ use Rattle.disk_model.specs.declared.name.FileName.{FileName}
 use Rattle.disk_model.specs.Disk.{Files, Content, Image, BothTold, WhereTold, Unchanged, ReadsFit}
 use Rattle.disk_model.specs.Moments.{LeavesOnly, started, joined, weaker}
 use Rattle.root_slots.specs.Between.{BetweenStays, RunsBetween, between_image}
+use Rattle.root_slots.proofs.OneRoots.{looks_one}
 use Rattle.disk_model.specs.Synced.{IsSettled}
 use Rattle.arch_model.specs.Archives.{Archive, live}
 use Rattle.view_set.specs.Viewed.{views_of}
@@ -507,7 +508,7 @@ module _ {D : Type 0} (g : Disk D)
     for_command = starved-for command;
     count = starved-reads command (g.reads e.disk);
     rooted = tt;
-    crash_between = started g e.disk (BetweenStays (g.content e.disk)) (λ image left. between_image (g.content e.disk) image (only_now e.disk image left));
+    crash_root = (None, looks_one g (1 - e.view.slot) None e.disk e.disk (started g e.disk (Image (g.content e.disk)) (λ image left. only_now e.disk image left)));
     damage = tt;
   }
 

@@ -26,5 +26,5 @@ mod EditKept
 mod Taking
 mod Redone
 mod Walking
-mod RootBytes
+pub mod RootBytes
 pub mod Engines

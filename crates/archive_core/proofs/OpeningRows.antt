@@ -6,7 +6,7 @@ use Rattle.disk_model.specs.declared.disk.Disk.{Ghosts as Disk}
 use Rattle.disk_model.specs.Disk.{Files, Content, Image, BothTold, WhereTold, Unchanged}
 use Rattle.disk_model.specs.Moments.{LeavesOnly, joined}
 use Rattle.disk_model.specs.Synced.{IsSettled}
-use Rattle.root_slots.specs.Between.{BetweenStays}
+use Rattle.root_slots.specs.OneRoot.{OneRootStays}
 use Rattle.arch_model.specs.Archives.{Archive}
 use Rattle.arch_model.specs.declared.opening.OpenRefusal.{OpenRefusal}
 use Rattle.arch_model.specs.declared.opening.OpenRefusal.TheVariants as opening
@@ -64,7 +64,7 @@ module _ {D : Type 0} (g : Disk D)
       kept = subst (λ (k : Option Content). BothTold (IsSettledBy v.root v.slot) (g.content old) k) (sym same) opened.kept;
       sizes = subst (WhereTold (StoreHasSizes v)) (sym same) opened.sizes;
       cause = subst (λ (n : ℕ). RoseIf (◌≡◌ {A = Result StoreState OpenRefusal} (Ok v) (Err opening.DiskFault)) (g.faults old) n) (sym steady) opened.cause;
-      crash_between = run-read old mid new (BetweenStays (g.content old)) opened.crash_between looks;
+      crash_root = (let none = opened.crash_root in record { slot = none.slot; in_range = none.in_range; other = none.other; crash = run-read old mid new (OneRootStays none.slot None (g.content old)) none.crash looks });
     }
 
     -- They weren't, and the archive isn't opened.
@@ -81,7 +81,7 @@ module _ {D : Type 0} (g : Disk D)
       kept = tt;
       sizes = tt;
       cause = subst (λ (n : ℕ). RoseIf (◌≡◌ {A = Result StoreState OpenRefusal} (Err why) (Err opening.DiskFault)) n (g.faults new)) (opened.cause.kept (λ never. absurd (cc never))) cause;
-      crash_between = run-read old mid new (BetweenStays (g.content old)) opened.crash_between looks;
+      crash_root = (let none = opened.crash_root in record { slot = none.slot; in_range = none.in_range; other = tt; crash = run-read old mid new (OneRootStays none.slot None (g.content old)) none.crash looks });
     }
       where
         by_why : (w : OpenRefusal) → OnSynced {T = StoreState} (Err w) (SyncsFirst g old new)

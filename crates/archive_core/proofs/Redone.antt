@@ -1,5 +1,5 @@
 -- What the calls of a purge and an edit promise, by the calls of the store.
-use Rattle.std.specs.Prelude.{◌≡◌, ◌+◌, ◌<◌, ◌^◌, ℕ, List, [], Some, None, Result, Ok, Err, refl}
+use Rattle.std.specs.Prelude.{◌≡◌, ◌+◌, ◌-◌, ◌<◌, ◌^◌, ℕ, List, [], Some, None, Result, Ok, Err, refl}
 use Rattle.std.proofs.Common.{sym, ap, subst, arith}
 use Rattle.arch_base.specs.Counts.{RoseIf}
 use Rattle.arch_base.specs.declared.ids.ObjectId.{ObjectId}
@@ -20,9 +20,9 @@ use Rattle.arch_judge.specs.declared.judging.Verdict.TheVariants.{Take, Refuse}
 use Rattle.epoch_file.specs.declared.refusal.StoreRefusal.{StoreRefusal}
 use Rattle.epoch_store.specs.Laws.{StoreRecovers}
 use Rattle.epoch_store.specs.Promises.{ChangesStore, Renews, Replaces}
-use Rattle.root_slots.specs.Between.{looks_between}
+use Rattle.root_slots.proofs.OneRoots.{looks_one}
 use Rattle.root_slots.specs.Spelling.{spelling}
-use Rattle.epoch_store.proofs.Readying.{read_between}
+use Rattle.epoch_store.proofs.Readying.{read_begins}
 use Rattle.store_finding.specs.Kept.{StoreState, IsStoreWith, KeepsArchive}
 use Rattle.epoch_store.specs.Commands.{StoreHasSizes, MayPurge, RecoversOneOf}
 use Rattle.store_planning.specs.Dropping.{without_blob}
@@ -85,7 +85,7 @@ module _ {D : Type 0} (g : Disk D)
     cause = cause;
     for_command = late-delivery reply late;
     rooted = late-never reply _ late;
-    crash_between = looks_between g old mid looks.crash;
+    crash_root = (None, looks_one g (1 - v.slot) None old mid looks.crash);
     damage = entry-damage v (g.content old) reply damage;
   }
 
@@ -104,7 +104,7 @@ module _ {D : Type 0} (g : Disk D)
     cause = record { later = omega arith; failed = λ fault. absurd (cc fault); kept = λ never. refl };
     for_command = tt;
     rooted = tt;
-    crash_between = (let looks = looks-same g only_now disk in looks_between g disk disk looks.crash);
+    crash_root = (let looks = looks-same g only_now disk in (None, looks_one g (1 - v.slot) None disk disk looks.crash));
     damage = tt;
   }
 
@@ -144,7 +144,7 @@ module _ {D : Type 0} (g : Disk D)
       cause = subst (λ (m : ℕ). RoseIf (refusal_answer why ≡ answer.DiskFault) m (g.faults new)) steady (error-cause why (g.faults mid) (g.faults new) keeps.cause);
       for_command = error-then why AnswersDelivery tt tt (λ file at. tt);
       rooted = error-done why (refusal_answer why) _ refl;
-      crash_between = read_between g old mid new looks.same looks.crash keeps.crash_between;
+      crash_root = read_begins g (1 - v.slot) old mid new (omega arith) looks.same looks.crash keeps.crash_root;
       damage = store-damage v (g.content old) (g.content mid) why (refusal_answer why) refl looks.same keeps.damage;
     })
 
@@ -169,6 +169,6 @@ module _ {D : Type 0} (g : Disk D)
       cause = subst (λ (m : ℕ). RoseIf (answer.Ok n ids.blob ≡ answer.DiskFault) m (g.faults new)) steady (record { later = keeps.cause.later; failed = λ fault. absurd (cc fault); kept = λ never. keeps.cause.kept (λ fault. absurd (cc fault)) });
       for_command = tt;
       rooted = rooted-read after.slot (spelling after.root) (g.content old) (g.content mid) (g.content new) looks.same keeps.rooted;
-      crash_between = read_between g old mid new looks.same looks.crash keeps.crash_between;
+      crash_root = read_begins g (1 - v.slot) old mid new (omega arith) looks.same looks.crash keeps.crash_root;
       damage = tt;
     }

@@ -1,11 +1,11 @@
 -- What a command promises that was refused, or that the store failed to do.
-use Rattle.std.specs.Prelude.{◌≡◌, ◌+◌, ◌<◌, ◌^◌, ℕ, Bool, true, false, List, Option, Some, None, Result, Ok, Err, is_some, refl, if◌then◌else◌}
+use Rattle.std.specs.Prelude.{◌≡◌, ◌+◌, ◌-◌, ◌<◌, ◌^◌, ℕ, Bool, true, false, List, Option, Some, None, Result, Ok, Err, is_some, refl, if◌then◌else◌}
 use Rattle.std.proofs.Common.{◌∙◌, sym, ap, subst, arith}
 use Rattle.arch_base.specs.Counts.{RoseIf}
 use Rattle.disk_model.specs.declared.disk.Disk.{Ghosts as Disk}
 use Rattle.disk_model.specs.Disk.{Files, Content, Image, BothTold, Unchanged, WhereTold}
 use Rattle.disk_model.specs.Moments.{LeavesOnly}
-use Rattle.root_slots.specs.Between.{looks_between}
+use Rattle.root_slots.proofs.OneRoots.{looks_one}
 use Rattle.root_slots.specs.Slots.{HasNewRoot}
 use Rattle.root_slots.specs.Spelling.{spelling}
 use Rattle.mail_reader.specs.Stored.{stored}
@@ -24,7 +24,7 @@ use Rattle.epoch_store.specs.Promises.{Appends, ChangesStore, Renews, StaysBy, W
 use Rattle.store_finding.specs.Kept.{StoreState, IsStoreWith, KeepsArchive}
 use Rattle.epoch_store.specs.Commands.{StoreHasSizes, RecoversOneOf, UnlessFailed}
 use Rattle.store_planning.specs.Dropping.{IsUndamagedStore}
-use Rattle.epoch_store.proofs.Readying.{read_between}
+use Rattle.epoch_store.proofs.Readying.{read_begins}
 use Rattle.archive_core.specs.Commands.{DoneBy, FilesFor, IfUnreadFor, IsForCommand, OnDone, OnlyLooks, TakesCommand, UnlessFault, cache_left, refusal_answer, way_of}
 use Rattle.archive_core.specs.DamageTold.{TellsDamage}
 use Rattle.archive_core.specs.Engines.{unchanged-is}
@@ -131,7 +131,7 @@ module _ {D : Type 0} (g : Disk D)
     for_command = for_command;
     count = count;
     rooted = done-then reply ⊥ _ (λ wrong. absurd wrong) never;
-    crash_between = looks_between g old new looks.crash;
+    crash_root = (None, looks_one g (1 - v.slot) None old new looks.crash);
     damage = damage;
   }
 
@@ -172,7 +172,7 @@ module _ {D : Type 0} (g : Disk D)
           for_command = for_command;
           count = count;
           rooted = error-done why (refusal_answer why) _ refl;
-          crash_between = read_between g old mid new looks.same looks.crash changes.crash_between;
+          crash_root = read_begins g (1 - v.slot) old mid new (omega arith) looks.same looks.crash changes.crash_root;
           damage = store-damage v (g.content old) (g.content mid) why (refusal_answer why) refl looks.same changes.damage;
         })
 
@@ -194,6 +194,6 @@ module _ {D : Type 0} (g : Disk D)
       for_command = for_command;
       count = count;
       rooted = rooted-read after.slot (spelling after.root) (g.content old) (g.content mid) (g.content new) looks.same changes.rooted;
-      crash_between = read_between g old mid new looks.same looks.crash changes.crash_between;
+      crash_root = read_begins g (1 - v.slot) old mid new (omega arith) looks.same looks.crash changes.crash_root;
       damage = tt;
     }

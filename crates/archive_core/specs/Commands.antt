@@ -24,7 +24,7 @@ use Rattle.store_finding.specs.Files.{epoch_file_of}
 use Rattle.arch_model.specs.Keeping.{ReadsFor}
 use Rattle.arch_model.specs.Shelves.{blob_text}
 use Rattle.disk_model.specs.Synced.{IsSettled}
-use Rattle.root_slots.specs.Between.{RunsBetween}
+use Rattle.root_slots.specs.OneRoot.{BeginsRootIn}
 use Rattle.root_slots.specs.Slots.{HasNewRoot}
 use Rattle.root_slots.specs.Spelling.{spelling}
 use Rattle.arch_model.specs.Archives.{Archive, Entry, blob_number, live, messages, text_of, with_entry, without_entries}
@@ -288,8 +288,9 @@ pub record TakesCommand {D : Type 0} (g : Disk D) (old new : D)
   -- The root file has the new root in its slot, whose gate is open, and is otherwise as it was.
   pub rooted : OnDone reply
       (BothTold (HasNewRoot after.slot (spelling after.root)) (g.content old) (g.content new))
-  -- At each moment its bytes between the gates and the bodies are as before.
-  pub crash_between : RunsBetween g old new
+  -- At each moment, also after a fault, all its bytes are as before but those of that slot, into which at
+  -- most one new root comes.
+  pub crash_root : BeginsRootIn g (1 - before.slot) old new
   pub damage : TellsDamage before (g.content old) reply
 
 -- The command delivers a message: it is a delivery or an edit.

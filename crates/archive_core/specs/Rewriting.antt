@@ -7,7 +7,7 @@ use Rattle.disk_model.specs.declared.disk.Disk.{Ghosts as Disk}
 use Rattle.disk_model.specs.Disk.{BothTold, WhereTold}
 use Rattle.disk_model.specs.Moments.{LeavesOnly}
 use Rattle.disk_model.specs.Synced.{IsSettled}
-use Rattle.root_slots.specs.Between.{RunsBetween}
+use Rattle.root_slots.specs.OneRoot.{BeginsRootIn}
 use Rattle.root_slots.specs.Slots.{HasNewRoot}
 use Rattle.root_slots.specs.Spelling.{spelling}
 use Rattle.mail_reader.specs.declared.storing.StoredRefusal.{StoredRefusal}
@@ -94,5 +94,5 @@ pub record EditsAs {D : Type 0} (g : Disk D) (old new : D) (before after : Store
   pub for_command : AnswersDelivery reply
   pub rooted : OnDone reply
       (BothTold (HasNewRoot after.slot (spelling after.root)) (g.content old) (g.content new))
-  pub crash_between : RunsBetween g old new
+  pub crash_root : BeginsRootIn g (1 - before.slot) old new
   pub damage : TellsDamage before (g.content old) reply

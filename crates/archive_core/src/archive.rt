@@ -7,7 +7,7 @@ ghost use Rattle.arch_judge.specs.Indexes.{IsArchiveIndex};
 ghost use Rattle.disk_model.specs.Disk.{BothTold, WhereTold};
 ghost use Rattle.disk_model.specs.Moments.{LeavesOnly};
 ghost use Rattle.disk_model.specs.Synced.{IsSettled};
-ghost use Rattle.root_slots.specs.Between.{RunsBetween};
+ghost use Rattle.root_slots.specs.OneRoot.{BeginsRootIn};
 ghost use Rattle.root_slots.specs.Slots.{HasNewRoot};
 ghost use Rattle.root_slots.specs.Spelling.{spelling};
 ghost use Rattle.arch_model.specs.Archives.{Archive, live, text_of};
@@ -387,7 +387,7 @@ impl DiskArchive {
         ensures count { D.reads disk.new ≡ D.reads disk.old }
         ensures rooted { OnDone result (BothTold (HasNewRoot self.new.slot (spelling self.new.root))
             (D.content disk.old) (D.content disk.new)) }
-        ensures crash_between { RunsBetween D.Disk disk.old disk.new }
+        ensures crash_root { BeginsRootIn D.Disk (1 - self.old.slot) disk.old disk.new }
     {
         if !self.is_named(index, text) {
             return self.damaged(index);

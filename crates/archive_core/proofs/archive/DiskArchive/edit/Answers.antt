@@ -1,4 +1,4 @@
-use Rattle.std.proofs.Common.{◌≡◌, ◌∙◌, arith, [], ap, subst, sym, true, false, refl, rules, tests, ℕ, List}
+use Rattle.std.proofs.Common.{◌≡◌, ◌∙◌, ◌-◌, arith, [], ap, subst, sym, true, false, refl, rules, tests, ℕ, List}
 use Rattle.arch_base.specs.Counts.{RoseIf}
 use Rattle.arch_base.specs.declared.config.Config.{Config}
 use Rattle.arch_base.specs.declared.ids.ObjectId.{ObjectId}
@@ -8,7 +8,7 @@ use Rattle.arch_model.specs.Archives.{Archive, live, text_of}
 use Rattle.arch_model.specs.Delivery.{Done, edited, edited_text}
 use Rattle.arch_model.specs.declared.answer.Answer.TheVariants as answer
 use Rattle.arch_model.specs.declared.command.Command.TheVariants.{Edit}
-use Rattle.epoch_store.proofs.Readying.{read_between}
+use Rattle.epoch_store.proofs.Readying.{read_begins}
 use Rattle.store_finding.specs.Kept.{StoreState, IsStoreWith}
 use Rattle.epoch_store.specs.Commands.{EditsFiles, RecoversOneOf}
 use Rattle.archive_core.specs.Commands.{DoneBy}
@@ -90,7 +90,7 @@ returns-in-Ok-false-clause-taken g c =
       for_command = delivery-edit c.args.number reply edits.for_command;
       count = (let first = c.is_same.ensures.fewest in let more = c.replace.ensures.fewest in omega arith);
       rooted = done-then reply _ _ (rooted-read c.replace.new.self.slot (spelling c.replace.new.self.root) (g.D.Disk.content c.args.disk.now) (g.D.Disk.content c.is_same.new.disk) (g.D.Disk.content c.replace.new.disk) c.is_same.ensures.looks.same) edits.rooted;
-      crash_between = read_between g.D.Disk c.args.disk.now c.is_same.new.disk c.replace.new.disk c.is_same.ensures.looks.same c.is_same.ensures.looks.crash edits.crash_between;
+      crash_root = read_begins g.D.Disk (1 - c.args.self.now.slot) c.args.disk.now c.is_same.new.disk c.replace.new.disk (omega arith) c.is_same.ensures.looks.same c.is_same.ensures.looks.crash edits.crash_root;
       damage = damage-back c.args.self.now (g.D.Disk.content c.args.disk.now) (g.D.Disk.content c.is_same.new.disk) reply c.is_same.ensures.looks.same edits.damage;
     }
 

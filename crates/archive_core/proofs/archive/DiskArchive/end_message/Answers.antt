@@ -1,11 +1,11 @@
-use Rattle.std.proofs.Common.{◌≡◌, ◌+◌, ◌<◌, ◌∙◌, sym, ap, subst, length, refl}
+use Rattle.std.proofs.Common.{◌≡◌, ◌+◌, ◌-◌, ◌<◌, ◌∙◌, None, sym, ap, subst, length, refl}
 use Rattle.std.proofs.lemmas.Option.{slice_get_within}
 use Rattle.disk_model.specs.Moments.{LeavesOnly}
 use Rattle.arch_model.specs.Archives.{Archive}
 use Rattle.arch_model.specs.Delivery.{Done}
 use Rattle.arch_model.specs.declared.answer.Answer.TheVariants as answer
 use Rattle.mail_commits.specs.declared.ids.TextIds.{TextIds}
-use Rattle.root_slots.specs.Between.{looks_between}
+use Rattle.root_slots.proofs.OneRoots.{looks_one}
 use Rattle.store_finding.specs.Kept.{StoreState, IsStoreWith}
 use Rattle.epoch_store.specs.Commands.{RecoversEitherWith}
 use Rattle.archive_core.specs.DamageTold.{TellsDamage}
@@ -72,11 +72,11 @@ returns-then-not-is_named-clause-read g c = if-damaged c.args.self.now _ c.damag
 pub returns-in-Err-clause-read : goal.returns-in-Err-clause-read
 returns-in-Err-clause-read g c = if-error c.in-Err.refusal c.answer_of.result ⊥ c.answer_of.ensures
 
-pub returns-then-not-is_named-clause-crash_between : goal.returns-then-not-is_named-clause-crash_between
-returns-then-not-is_named-clause-crash_between g c =
+pub returns-then-not-is_named-clause-crash_root : goal.returns-then-not-is_named-clause-crash_root
+returns-then-not-is_named-clause-crash_root g c =
     let disk = c.args.disk.now in
     let looks = looks-same g.D.Disk g.met.D.Disk.only_now disk in
-    looks_between g.D.Disk disk disk looks.crash
+    (None, looks_one g.D.Disk (1 - c.args.self.now.slot) None disk disk looks.crash)
 
 pub returns-then-not-is_named-clause-damage : goal.returns-then-not-is_named-clause-damage
 returns-then-not-is_named-clause-damage g c =

@@ -1,4 +1,4 @@
-use Rattle.std.proofs.Common.{◌≡◌, ◌∙◌, [], sym, ap, subst, refl, ℕ, List, Some, Ok}
+use Rattle.std.proofs.Common.{◌≡◌, ◌∙◌, ◌-◌, [], sym, ap, subst, refl, arith, ℕ, List, Some, Ok}
 use Rattle.arch_base.specs.Counts.{RoseIf}
 use Rattle.arch_base.specs.declared.config.Config.{Config}
 use Rattle.root_slots.specs.Spelling.{spelling}
@@ -9,7 +9,7 @@ use Rattle.arch_model.specs.declared.answer.Answer.{Answer}
 use Rattle.arch_model.specs.declared.answer.Answer.TheVariants as answer
 use Rattle.arch_model.specs.declared.command.Command.TheVariants.{Remove}
 use Rattle.epoch_store.specs.Reads.{GivesTextOf}
-use Rattle.epoch_store.proofs.Readying.{read_between}
+use Rattle.epoch_store.proofs.Readying.{read_begins}
 use Rattle.store_finding.specs.Kept.{StoreState, IsStoreWith}
 use Rattle.archive_core.specs.Commands.{AnswersRemoval, IfUnread, OnDone}
 use Rattle.archive_core.proofs.ByNumber.{inside-message, text-gives}
@@ -71,7 +71,7 @@ returns-in-Ok g c = record {
     for_command = c.end_message.ensures.for_command;
     count = subst (λ (n : ℕ). ReadsOnce (g.D.Disk.reads c.args.disk.now) n) (sym c.end_message.ensures.count) (record { later = c.text.ensures.fewest; most = c.text.ensures.count });
     rooted = done-then c.end_message.result _ _ (rooted-read c.end_message.new.self.slot (spelling c.end_message.new.self.root) (g.D.Disk.content c.args.disk.now) (g.D.Disk.content c.text.new.disk) (g.D.Disk.content c.end_message.new.disk) c.text.ensures.same) c.end_message.ensures.rooted;
-    crash_between = read_between g.D.Disk c.args.disk.now c.text.new.disk c.end_message.new.disk c.text.ensures.same c.text.ensures.crash c.end_message.ensures.crash_between;
+    crash_root = read_begins g.D.Disk (1 - c.args.self.now.slot) c.args.disk.now c.text.new.disk c.end_message.new.disk (omega arith) c.text.ensures.same c.text.ensures.crash c.end_message.ensures.crash_root;
     damage = damage-back c.args.self.now (g.D.Disk.content c.args.disk.now) (g.D.Disk.content c.text.new.disk) c.end_message.result c.text.ensures.same c.end_message.ensures.damage;
   };
 }

@@ -1,5 +1,5 @@
-use Rattle.std.specs.Prelude.{◌+◌, ◌<◌, ◌^◌}
-use Rattle.std.proofs.Common.{◌≡◌, ◌∙◌, ◌||◌, ℕ, List, false, not, is_ok, ap, sym, subst}
+use Rattle.std.specs.Prelude.{◌+◌, ◌-◌, ◌<◌, ◌^◌}
+use Rattle.std.proofs.Common.{◌≡◌, ◌∙◌, ◌||◌, ℕ, List, false, not, is_ok, ap, sym, subst, arith}
 use Rattle.std.proofs.lemmas.Bool.{false≢true}
 use Rattle.arch_model.specs.Keeping.{text_known}
 use Rattle.archive_core.specs.Commands.{cache_left, is_delivery}
@@ -10,6 +10,7 @@ use Rattle.store_finding.specs.Kept.{IsStoreWith}
 use Rattle.archive_core.specs.Engines.{Owning, needs_opening, reading-same}
 use Rattle.arch_model.specs.Archives.{Archive}
 use Rattle.arch_model.specs.Delivery.{applied}
+use Rattle.archive_core.proofs.RootBytes.{begins-between}
 use Rattle.archive_core.proofs.Engines.{starved-at, starved-takes, taken-by-parts, still-left, left-from, done-from, taken-from, answer-cause-from, refused-from, unmoved-from, removed-from, of-removal, kept-or-none}
 use Rattle.archive_core.proofs.KeepingUp.{kept-up, followed-ready, needs-stale, on-ok, stays-ready}
 use Rattle.archive_core.proofs.Standing.{store_keeps}
@@ -50,7 +51,7 @@ returns-clause-stands g c =
     (record { disk = c.self.inside.disk; view = c.self.inside.archive; views = c.self.inside.views; stale = c.self.inside.stale }) c.args.self.now c.self.view_is c.law_of_recovery.ensures.caches
     (record { disk = c.command_keeping-answer.new.disk; view = c.command_keeping-answer.new.self; views = c.follow-followed.new.views; stale = c.is_left_stale-self-inside.result })
     wanted (cache_left c.args.command.now) reply (kept-or-none c.args.command.now) (λ needs. stale_is ∙ needs-stale (needs_opening reply) ok needs)
-    (λ a cache store. c.command_keeping-answer.ensures.taken.crash a cache store room) c.command_keeping-answer.ensures.taken.crash_between (λ a cache store. c.command_keeping-answer.ensures.taken.done a cache store room)
+    (λ a cache store. c.command_keeping-answer.ensures.taken.crash a cache store room) (begins-between g.D.Disk (1 - c.self.inside.archive.slot) c.self.inside.disk c.command_keeping-answer.new.disk (omega arith) c.command_keeping-answer.ensures.taken.crash_root) (λ a cache store. c.command_keeping-answer.ensures.taken.done a cache store room)
     (λ a cache store old_is.
     kept-up a c.args.command.now c.args.moment c.command_keeping-answer.new.kept.text c.command_keeping-answer.new.gone c.command_keeping-answer.new.self cache (cache_left c.args.command.now cache) (g.D.Disk.content c.command_keeping-answer.new.disk) c.self.inside.views c.follow-followed.new.views (not c.is_left_stale-self-inside.result) ok reply
     (store_keeps c.self.inside.archive cache a (g.D.Disk.content c.self.inside.disk) store).valid old_is (c.command_keeping-answer.ensures.taken.done a cache store room)

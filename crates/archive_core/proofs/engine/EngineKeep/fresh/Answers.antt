@@ -1,6 +1,7 @@
 use Rattle.std.proofs.Common.{◌∙◌, false, ap, not, sym, Ok, Err}
 use Rattle.std.proofs.lemmas.Bool.{false≢true}
 use Rattle.archive_core.specs.HandedBack.{view_opened}
+use Rattle.archive_core.proofs.RootBytes.{opens-between}
 use Rattle.archive_core.proofs.Engines.{still-ready, still-stale, opens-from, kindly-from, ready-at, opened-from, unopened-from, passes-from, opening-why-from, opened-cause-from}
 use Rattle.archive_core.proofs.engine.EngineKeep.fresh.Goals as goal
 
@@ -23,13 +24,13 @@ returns-in-Ok-clause-nothing g c = λ ready. absurd (still-stale g.D.Disk g.met.
 pub returns-in-Ok-clause-found : goal.returns-in-Ok-clause-found
 returns-in-Ok-clause-found g c = opened-from g.D.Disk g.met.D.Disk.counts_now g.met.D.Disk.only_now g.met.D.Disk.reads_fit
     (record { disk = c.self.inside.disk; view = c.self.inside.archive; views = c.self.inside.views; stale = c.self.inside.stale }) c.args.self.now c.self.view_is c.law_of_recovery.ensures.some_one
-    (record { disk = c.open.new.disk; view = c.in-Ok.field-0.archive; views = c.in-Ok.field-0.views; stale = false }) (c.open.ensures.opened.before, c.open.ensures.opened.crash_between) (λ a cache reads. (c.in-Ok.ensures.opened.done a cache reads, c.in-Ok.ensures.rows a cache reads)) c.in-Ok.ensures.opened.settled
+    (record { disk = c.open.new.disk; view = c.in-Ok.field-0.archive; views = c.in-Ok.field-0.views; stale = false }) (c.open.ensures.opened.before, opens-between g.D.Disk c.self.inside.disk c.open.new.disk (view_opened c.open.result) c.open.ensures.opened.crash_root) (λ a cache reads. (c.in-Ok.ensures.opened.done a cache reads, c.in-Ok.ensures.rows a cache reads)) c.in-Ok.ensures.opened.settled
     (c.in-Ok.ensures.opened.answer, c.in-Ok.ensures.opened.kept)
 
 pub returns-in-Ok-clause-crash : goal.returns-in-Ok-clause-crash
 returns-in-Ok-clause-crash g c = passes-from g.D.Disk g.met.D.Disk.counts_now g.met.D.Disk.only_now g.met.D.Disk.reads_fit
     (record { disk = c.self.inside.disk; view = c.self.inside.archive; views = c.self.inside.views; stale = c.self.inside.stale }) c.args.self.now c.self.view_is c.law_of_recovery.ensures.some_one
-    (record { disk = c.open.new.disk; view = c.in-Ok.field-0.archive; views = c.in-Ok.field-0.views; stale = false }) (c.open.ensures.opened.before, c.open.ensures.opened.crash_between)
+    (record { disk = c.open.new.disk; view = c.in-Ok.field-0.archive; views = c.in-Ok.field-0.views; stale = false }) (c.open.ensures.opened.before, opens-between g.D.Disk c.self.inside.disk c.open.new.disk (view_opened c.open.result) c.open.ensures.opened.crash_root)
 
 pub returns-in-Ok-clause-cause : goal.returns-in-Ok-clause-cause
 returns-in-Ok-clause-cause g c = opened-cause-from g.D.Disk g.met.D.Disk.counts_now g.met.D.Disk.only_now g.met.D.Disk.reads_fit
@@ -43,12 +44,12 @@ returns-in-Err-clause-nothing g c = λ ready. absurd (still-stale g.D.Disk g.met
 pub returns-in-Err-clause-found : goal.returns-in-Err-clause-found
 returns-in-Err-clause-found g c = unopened-from g.D.Disk g.met.D.Disk.counts_now g.met.D.Disk.only_now g.met.D.Disk.reads_fit
     (record { disk = c.self.inside.disk; view = c.self.inside.archive; views = c.self.inside.views; stale = c.self.inside.stale }) c.args.self.now c.self.view_is c.law_of_recovery.ensures.some_one
-    (record { disk = c.open.new.disk; view = c.self.inside.archive; views = c.self.inside.views; stale = c.self.inside.stale }) c.in-Err.refusal (c.open.ensures.opened.before, c.open.ensures.opened.crash_between) c.in-Err.ensures.opened.well c.in-Err.ensures.refused (ap not c.if-not-self.false)
+    (record { disk = c.open.new.disk; view = c.self.inside.archive; views = c.self.inside.views; stale = c.self.inside.stale }) c.in-Err.refusal (c.open.ensures.opened.before, opens-between g.D.Disk c.self.inside.disk c.open.new.disk (view_opened c.open.result) c.open.ensures.opened.crash_root) c.in-Err.ensures.opened.well c.in-Err.ensures.refused (ap not c.if-not-self.false)
 
 pub returns-in-Err-clause-crash : goal.returns-in-Err-clause-crash
 returns-in-Err-clause-crash g c = passes-from g.D.Disk g.met.D.Disk.counts_now g.met.D.Disk.only_now g.met.D.Disk.reads_fit
     (record { disk = c.self.inside.disk; view = c.self.inside.archive; views = c.self.inside.views; stale = c.self.inside.stale }) c.args.self.now c.self.view_is c.law_of_recovery.ensures.some_one
-    (record { disk = c.open.new.disk; view = c.self.inside.archive; views = c.self.inside.views; stale = c.self.inside.stale }) (c.open.ensures.opened.before, c.open.ensures.opened.crash_between)
+    (record { disk = c.open.new.disk; view = c.self.inside.archive; views = c.self.inside.views; stale = c.self.inside.stale }) (c.open.ensures.opened.before, opens-between g.D.Disk c.self.inside.disk c.open.new.disk (view_opened c.open.result) c.open.ensures.opened.crash_root)
 
 pub returns-in-Err-clause-ready : goal.returns-in-Err-clause-ready
 returns-in-Err-clause-ready g c = ap not c.if-not-self.false
