@@ -26,7 +26,7 @@ use Rattle.epoch_store.proofs.Readying.{read_begins}
 use Rattle.store_finding.specs.Kept.{StoreState, IsStoreWith, KeepsArchive}
 use Rattle.epoch_store.specs.Commands.{StoreHasSizes, MayPurge, RecoversOneOf}
 use Rattle.store_planning.specs.Dropping.{without_blob}
-use Rattle.archive_core.specs.Commands.{AnswersDelivery, DoneBy, IfUnreadEdit, JudgesOn, OnDone, OnlyLooks, refusal_answer}
+use Rattle.archive_core.specs.Commands.{AnswersDelivery, IfUnreadEdit, JudgesOn, OnDone, OnlyLooks, refusal_answer}
 use Rattle.archive_core.specs.DamageTold.{TellsEntry}
 use Rattle.archive_core.specs.Engines.{unchanged-is}
 use Rattle.archive_core.specs.Kept.{IndexesKept}
