@@ -18,7 +18,7 @@ use Rattle.store_finding.specs.declared.entries.StoredEntry.{StoredEntry}
 use Rattle.epoch_store.specs.Reads.{GivesTextOf, line_if, line_of, text_if}
 use Rattle.store_finding.specs.Kept.{StoreState, KeepsArchive}
 use Rattle.archive_core.specs.Numbers.{IsMessageAt, HasBlobAt, IsBlobIndex}
-use Rattle.archive_core.proofs.SameIds.{same_ids}
+use Rattle.store_finding.proofs.SameIds.{same_ids}
 use Rattle.archive_core.proofs.Stored.{kept-at, message-at}
 
 -- The text of a blob id has it.

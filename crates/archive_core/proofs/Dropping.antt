@@ -28,7 +28,7 @@ use Rattle.archive_core.specs.Kept.{IndexesKept, PutsText}
 use Rattle.archive_core.specs.Placing.{message_places, has_ended, PlacesBy, PlacesFrom, has_blob_at, IsLiveWith}
 use Rattle.archive_core.specs.declared.placing.MessagePlace.{MessagePlace}
 use Rattle.store_finding.proofs.Indexes.{indexes_none, indexes_more}
-use Rattle.archive_core.proofs.SameIds.{same_ids}
+use Rattle.store_finding.proofs.SameIds.{same_ids}
 use Rattle.archive_core.proofs.Places.{place_of, places-low}
 use Rattle.archive_core.proofs.Removing.{places-message}
 

@@ -22,7 +22,7 @@ use Rattle.store_finding.specs.Kept.{StoreState, KeepsArchive}
 use Rattle.archive_core.specs.Commands.{unread_answer}
 use Rattle.archive_core.specs.Numbers.{IsLiveAt}
 use Rattle.archive_core.specs.Rewriting.{ComparesForm}
-use Rattle.archive_core.proofs.SameIds.{same_ids}
+use Rattle.store_finding.proofs.SameIds.{same_ids}
 use Rattle.archive_core.proofs.ByBlob.{message-of}
 use Rattle.archive_core.proofs.ByNumber.{entry-text, text-gives}
 

@@ -1,5 +1,4 @@
 mod Counting
-mod SameIds
 pub mod Answered
 pub mod Standing
 mod Places
