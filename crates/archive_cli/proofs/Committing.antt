@@ -1,29 +1,30 @@
 -- What a run leaves of the files that it opened, by the calls below it.
-use Rattle.std.specs.Prelude.{◌≡◌, ◌-◌, ◌+◌, ◌<◌, ◌≤◌, ℕ, List, length, Option, Some, None, Ok}
-use Rattle.std.proofs.Common.{◌∙◌, sym, ap, subst, inl, inr, arith}
-use Rattle.std.proofs.lemmas.Bool.{cases_eq}
+use Rattle.std.specs.Prelude.{◌≡◌, ◌-◌, ◌≤◌, ℕ, List, length, Option, Some, None, Result, Ok}
+use Rattle.std.proofs.Common.{◌∙◌, sym, ap, subst, arith}
 use Rattle.disk_model.specs.declared.disk.Disk.{Ghosts as Disk}
-use Rattle.disk_model.specs.Disk.{File, Files, Content, Image, BothTold, WhereTold, ReadsFit, bytes_of, overlay}
-use Rattle.disk_model.specs.Laws.{overlay-torn}
+use Rattle.disk_model.specs.Disk.{File, Files, Content, Image, BothTold, WhereTold, ReadsFit, bytes_of}
 use Rattle.disk_model.specs.Moments.{started}
 use Rattle.disk_model.specs.Synced.{IsSettled}
-use Rattle.root_slots.specs.Between.{RunsBetween, WentBetween, crash_between, joined_between, looks_between, went_settled}
-use Rattle.root_slots.specs.Each.{IfThere, part_stays}
+use Rattle.root_slots.specs.Between.{WentBetween}
+use Rattle.root_slots.specs.OneRoot.{BeginsRootIn, BeginsNoRoot, BeginsOneRoot, RunsOneRoot, WentOneRoot}
+use Rattle.root_slots.proofs.OneRoots.{any_one, joined_one, looks_none, looks_one, none_begins, went_any, went_between}
+use Rattle.root_slots.specs.Each.{IfThere}
 use Rattle.root_slots.specs.RootName.{root_name}
 use Rattle.root_slots.specs.Sizes.{spelling_least, spelling_length}
-use Rattle.root_slots.specs.Slots.{Current, HasNewRoot, body_offset, gate, with_root}
+use Rattle.root_slots.specs.Slots.{Current, HasNewRoot, with_root}
 use Rattle.root_slots.specs.Spelling.{spelling}
 use Rattle.arch_model.specs.declared.answer.Answer.{Answer}
 use Rattle.arch_model.specs.declared.answer.Answer.TheVariants as answer
 use Rattle.arch_model.specs.declared.command.Command.{Command}
 use Rattle.arch_model.specs.declared.command.Command.TheVariants.{Deliver, Remove, Purge, Edit}
+use Rattle.arch_model.specs.declared.opening.OpenRefusal.{OpenRefusal}
 use Rattle.store_finding.specs.Files.{as_read}
 use Rattle.store_finding.specs.Finding.{IsCurrentRoot}
 use Rattle.epoch_store.specs.Opens.{OpensFiles}
-use Rattle.epoch_store.specs.Promises.{WriteKind, GoesOnBy}
-use Rattle.epoch_store.specs.Settling.{IsSettledBy, KeepsSlots}
+use Rattle.epoch_store.specs.Promises.{WriteKind, GoesOnBy, OpensNoRoot}
+use Rattle.epoch_store.specs.Settling.{IsSettledBy}
 use Rattle.store_finding.specs.Kept.{StoreState}
-use Rattle.epoch_store.proofs.Readying.{committed_over}
+use Rattle.epoch_store.proofs.Readying.{committed_over, kept_one}
 use Rattle.archive_core.specs.Commands.{IsForCommand, OnDone, OnRefusal, OnlyLooks, UnlessFault}
 use Rattle.archive_core.specs.Engines.{unchanged-is}
 use Rattle.archive_core.proofs.Replies.{done-then, refused-then}
@@ -48,28 +49,18 @@ whole-root : (slot : ℕ) (body : List ℕ) (file : File) → IfThere (Current s
 whole-root slot body None current = absurd current
 whole-root slot body (Some bytes) current = current.size
 
--- Its bytes between the gates and the bodies stay if a body is written.
-crash_between-filled : (at : ℕ) (bytes file : List ℕ) → 1024 ≤ at → at + length bytes ≤ length file → crash_between (overlay at bytes file) ≡ crash_between file
-unfolding crash_between
-crash_between-filled at bytes file high inside = part_stays at (length bytes) file (overlay at bytes file) 2 1022 (overlay-torn at bytes file inside) (inl (omega (arith, high)))
-
-crash_between-kept : (slot : ℕ) (body a b : List ℕ) → slot < 2 → length body ≡ 1536 → length a ≡ 4096 → KeepsSlots slot body a b → crash_between b ≡ crash_between a
-crash_between-kept slot body a b low whole size kept = elim (cases_eq (gate a (1 - slot)) 1) [
-  | inl is ↦ ap crash_between (kept.opened is)
-  | inr isnt ↦
-      ap crash_between (kept.filled isnt)
-      ∙ crash_between-filled (body_offset (1 - slot)) body a (omega arith) (omega (arith, size, whole, low))
-]
-
--- The bytes there after files were opened, of which the disk was settled.
-pub opened-went : (v : StoreState) (old mid : Option Content) → ReadsFit old → WhereTold (λ (k : Content). OpensFiles (as_read k) (Ok v)) old → BothTold (IsSettledBy v.root v.slot) old mid → WhereTold IsSettled mid → BothTold WentBetween old mid
-opened-went v None None fit opened kept settled = tt
-opened-went v None (Some m) fit opened kept settled = absurd kept
-opened-went v (Some k) None fit opened kept settled = absurd kept
-opened-went v (Some k) (Some m) fit opened kept settled =
+-- No root came into the root file after files were opened, of which the disk was settled.
+opened-one : (v : StoreState) (old mid : Option Content) → ReadsFit old → WhereTold (λ (k : Content). OpensFiles (as_read k) (Ok v)) old → BothTold (IsSettledBy v.root v.slot) old mid → WhereTold IsSettled mid → BothTold (WentOneRoot (1 - v.slot) None) old mid
+opened-one v None None fit opened kept settled = tt
+opened-one v None (Some m) fit opened kept settled = absurd kept
+opened-one v (Some k) None fit opened kept settled = absurd kept
+opened-one v (Some k) (Some m) fit opened kept settled =
     let is : IsCurrentRoot v.root v.slot (as_read k) = opened.root in
-    let size = whole-root v.slot (spelling v.root) (k root_name).seen is.current in
-    went_settled k m fit settled (crash_between-kept v.slot (spelling v.root) (bytes_of (k root_name).seen) (bytes_of (m root_name).seen) is.in_range (spelling_length v.root is.fits.name is.fits.count) size kept.slots)
+    kept_one v.slot (spelling v.root) (Some k) (Some m) (spelling_length v.root is.fits.name is.fits.count) fit is.current kept.slots settled
+
+-- So the bytes between its gates and its bodies stay.
+pub opened-went : (v : StoreState) (old mid : Option Content) → ReadsFit old → WhereTold (λ (k : Content). OpensFiles (as_read k) (Ok v)) old → BothTold (IsSettledBy v.root v.slot) old mid → WhereTold IsSettled mid → BothTold WentBetween old mid
+opened-went v old mid fit opened kept settled = went_between (1 - v.slot) None old mid (omega arith) (opened-one v old mid fit opened kept settled)
 
 -- A root that was committed after that is the one change of the root file.
 rooted-over : (v : StoreState) (slot : ℕ) (next : List ℕ) (old mid new : Option Content) → slot ≡ 1 - v.slot → 1536 ≤ length next → WhereTold (λ (k : Content). OpensFiles (as_read k) (Ok v)) old → BothTold (IsSettledBy v.root v.slot) old mid → BothTold (HasNewRoot slot next) mid new → BothTold (HasNewRoot slot next) old new
@@ -111,11 +102,26 @@ opened-refused g old mid new reply settled refused = refused-then reply (OnlyLoo
     (λ looks. subst (λ (k : Option Content). OnlySettled old k) (sym (unchanged-is (g.content mid) (g.content new) looks.same)) settled) refused
 
 module _ {D : Type 0} (g : Disk D) where
-  -- At each moment of a command on files that were opened the bytes between gates and bodies stay.
-  pub opened-crash_between : (v : StoreState) (old mid new : D) → ReadsFit (g.content old) → WhereTold (λ (k : Content). OpensFiles (as_read k) (Ok v)) (g.content old) → BothTold (IsSettledBy v.root v.slot) (g.content old) (g.content mid) → WhereTold IsSettled (g.content mid) → RunsBetween g old mid → RunsBetween g mid new
-      → RunsBetween g old new
-  opened-crash_between v old mid new fit opened kept settled first second = joined_between g old mid new first (opened-went v (g.content old) (g.content mid) fit opened kept settled) second
+  -- An opening begins no root.
+  pub opened-none : (old new : D) (result : Result StoreState OpenRefusal) → OpensNoRoot g old new result → BeginsNoRoot g old new
+  opened-none old new result none = record { slot = none.slot; in_range = none.in_range; crash = none.crash }
+
+  -- A command on files that were opened begins at most one.
+  pub opened-begins : (v : StoreState) (old mid new : D) → ReadsFit (g.content old) → WhereTold (λ (k : Content). OpensFiles (as_read k) (Ok v)) (g.content old) → BothTold (IsSettledBy v.root v.slot) (g.content old) (g.content mid) → WhereTold IsSettled (g.content mid) → OpensNoRoot g old mid (Ok v) → BeginsRootIn g (1 - v.slot) mid new
+      → BeginsOneRoot g old new
+  opened-begins v old mid new fit opened kept settled none one =
+      let came = one.0 in
+      let slot = 1 - v.slot in
+      let first : RunsOneRoot g slot None old mid = subst (λ (s : ℕ). RunsOneRoot g s None old mid) none.other none.crash in
+      let went = went_any slot came (g.content old) (g.content mid) (opened-one v (g.content old) (g.content mid) fit opened kept settled) in
+      record { slot = slot; in_range = omega arith; came = came; crash = joined_one g slot came old mid new (omega arith) (any_one g slot came old mid first) went one.1 }
 
   -- Nothing was done.
-  pub still-crash_between : ((disk : D) (image : Files) → g.left_since disk (g.moment disk) image → Image (g.content disk) image) → (disk : D) → RunsBetween g disk disk
-  still-crash_between only_now disk = looks_between g disk disk (started g disk (Image (g.content disk)) (λ image now. only_now disk image now))
+  pub still-none : ((disk : D) (image : Files) → g.left_since disk (g.moment disk) image → Image (g.content disk) image) → (disk : D) → BeginsNoRoot g disk disk
+  still-none only_now disk = looks_none g disk disk (started g disk (Image (g.content disk)) (λ image now. only_now disk image now))
+
+  pub in-still : (slot : ℕ) → ((disk : D) (image : Files) → g.left_since disk (g.moment disk) image → Image (g.content disk) image) → (disk : D) → BeginsRootIn g slot disk disk
+  in-still slot only_now disk = (None, looks_one g slot None disk disk (started g disk (Image (g.content disk)) (λ image now. only_now disk image now)))
+
+  pub still-one : ((disk : D) (image : Files) → g.left_since disk (g.moment disk) image → Image (g.content disk) image) → (disk : D) → BeginsOneRoot g disk disk
+  still-one only_now disk = none_begins g disk disk (still-none only_now disk)

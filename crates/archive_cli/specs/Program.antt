@@ -12,7 +12,7 @@ use Rattle.edge_io.specs.Coming.{Moments, IsFirstMoment, after_first}
 use Rattle.edge_io.specs.Taken.{plus}
 use Rattle.edge_io.specs.Left.{before}
 use Rattle.edge_io.specs.Scripts.{Arrival, IsScript, IsBad}
-use Rattle.arch_model.specs.Archives.{Archive, empty_archive}
+use Rattle.arch_model.specs.Archives.{Archive}
 use Rattle.arch_model.specs.Delivery.{Done}
 use Rattle.arch_model.specs.Standing.{LastKnown}
 use Rattle.arch_model.specs.declared.answer.Answer.{Answer}
@@ -488,7 +488,7 @@ TakesInput words left unread left' unread' =
 -- What a crash leaves while an archive is made at the first moment to come.
 abbrev pub InitLeaves : Config → Option Moments → Option Content → Files → Type 0
 InitLeaves config coming old image = (moment : ℕ) × IsFirstMoment moment coming
-    × MakingLeaves (empty_archive (made_at config moment)) old image
+    × MakingLeaves (made_at config moment) old image
 
 -- The edges of a disk at a run of a job, which is carried out at the first moment to come.
 module _ {D : Type 0} (g : Disk D) where

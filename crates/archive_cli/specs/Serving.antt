@@ -11,7 +11,8 @@ use Rattle.edge_io.specs.Hosts as hosts
 use Rattle.edge_io.specs.Scripts.{Arrival}
 use Rattle.line_door.specs.Course.{SessionState}
 use Rattle.keep_course.specs.Courses.{afters, archives_of}
-use Rattle.root_slots.specs.Between.{BetweenStays, RunsBetween}
+use Rattle.root_slots.specs.Between.{BetweenStays}
+use Rattle.root_slots.specs.OneRoot.{BeginsNoRoot}
 use Rattle.arch_model.specs.Archives.{Archive}
 use Rattle.arch_model.specs.Following.{Follows}
 use Rattle.arch_model.specs.Standing.{LastKnown, standing, one_of}
@@ -212,29 +213,29 @@ module _ {D : Type 0} (g : Disk D) where
     pub numbers : FollowOn found (passed_in runs.turns)
 
   -- The archive wasn't opened. The refusal is that of the files as they read, the disk is left as it
-  -- stood, and the host wasn't asked. The disk's count of faults rose exactly if it failed.
+  -- stood, no root was begun, and the host wasn't asked. The disk's count of faults rose exactly if it
+  -- failed.
   pub record ShutOut (why : OpenRefusal) (old new : D) (i j : HostGiven)
       (recorded recorded' : List Outputs → Type 0) : Type 0 where
     pub kept : HostKept i j
     pub answer : WhereTold (λ k. OpensFiles (as_read k) (Err why)) (g.content old)
     pub unopened : LeavesKindly why (g.content old) (g.content new)
     pub crash : SyncsAtMost g old new
-    pub crash_between : RunsBetween g old new
+    pub crash_root : BeginsNoRoot g old new
     pub stands : (s : LastKnown) (cache : List ℕ) → StandsAs cache s (g.content old)
         → (t : LastKnown)
         × StandsAs cache t (g.content new) × StaysUnopened s (g.content old) why t
     pub cause : RoseIf (why ≡ opening.DiskFault) i.out.disk j.out.disk
     pub records : (past : List Outputs) → recorded past → recorded' past
 
-  -- The archive was opened, which synced the disk, and then settled it by the root that was found. At
-  -- each moment of that the bytes between the gates and the bodies of the root file stay. Then serving
-  -- took these events and ended by them, each from one stage to the next: at a stage stand the engine,
-  -- which is the disk, what is kept in memory of its archive, and whether it has to be reopened; and the
-  -- sessions over it. It is ready at first. Whatever the disk held, as where a file was found damaged, an
-  -- event changed nothing of other connections, but of those whose sessions idle; only a piece, or a
-  -- reopening for one that idles, used the disk, and a piece read no more than it asks for; and at each
-  -- stage the count of faults is the disk's own. The events were served over the
-  -- archive as which the files read, whatever its cache.
+  -- The archive was opened, which synced the disk, and then settled it by the root that was found; no
+  -- root was begun by that. Then serving took these events and ended by them, each from one stage to
+  -- the next: at a stage stand the engine, which is the disk, what is kept in memory of its archive,
+  -- and whether it has to be reopened; and the sessions over it. It is ready at first. Whatever the
+  -- disk held, as where a file was found damaged, an event changed nothing of other connections, but of
+  -- those whose sessions idle; only a piece, or a reopening for one that idles, used the disk, and a
+  -- piece read no more than it asks for; and at each stage the count of faults is the disk's own. The
+  -- events were served over the archive as which the files read, whatever its cache.
   --
   -- The host, whose records these are, was asked before each event, when all before it had been
   -- answered, and at the end if it then answered that none is left.
@@ -247,7 +248,7 @@ module _ {D : Type 0} (g : Disk D) where
     pub opened : D
     pub settles : OnlySettled (g.content old) (g.content opened)
     pub crash : SyncsFirst g old opened
-    pub crash_between : RunsBetween g old opened
+    pub crash_root : BeginsNoRoot g old opened
     pub first : Stage (Owning D)
     pub begins : IsFirstStage first i.out
     pub first_disk : first.node.keep.disk ≡ opened

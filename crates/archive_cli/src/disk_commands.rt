@@ -2,13 +2,13 @@
 //! Writes the disk; syncs.
 //!
 //! Each takes the disk, and hands it back.
-ghost use Rattle.std.specs.Prelude.{◌≡◌, ◌≤◌, ℕ, List};
+ghost use Rattle.std.specs.Prelude.{◌≡◌, ◌≤◌, ◌-◌, ℕ, List};
 ghost use Rattle.arch_base.specs.Configs.{IsConfig};
 ghost use Rattle.arch_base.specs.Counts.{RoseIf};
 ghost use Rattle.arch_base.specs.Moments.{last_moment};
 ghost use Rattle.disk_model.specs.Disk.{WhereTold};
 ghost use Rattle.disk_model.specs.Moments.{LeavesOnly};
-ghost use Rattle.arch_model.specs.Archives.{Archive, empty_archive};
+ghost use Rattle.arch_model.specs.Archives.{Archive};
 ghost use Rattle.arch_model.specs.Standing.{LastKnown};
 ghost use Rattle.arch_model.specs.declared.answer.Answer.{Answer};
 ghost use Rattle.store_finding.specs.Files.{as_read};
@@ -16,7 +16,7 @@ ghost use Rattle.epoch_store.specs.First.{MakingLeaves};
 ghost use Rattle.epoch_store.specs.Opens.{ReadsWith, SyncsAtMost};
 ghost use Rattle.store_finding.specs.Kept.{StoreState, IsStoreWith};
 ghost use Rattle.epoch_store.specs.Commands.{StoreHasSizes};
-ghost use Rattle.root_slots.specs.Between.{RunsBetween};
+ghost use Rattle.root_slots.specs.OneRoot.{BeginsRootIn, BeginsNoRoot, BeginsOneRoot};
 ghost use Rattle.archive_core.specs.Commands.{DoneBy, FilesFor, IsForCommand, OnDone, OnRefusal, OnlyLooks, UnlessFault, cache_left, way_of};
 ghost use Rattle.archive_cli.specs.DiskCommands.{MakesDisk, unmade, TakesTo, ReindexesTo, ChecksTo, IsOpenedAs, IsReply, IsReindex, IsCheck, StandsAs, CommandTakes, ReindexesOn, ChecksOn, RunsOrStays, LeavesEither, IsFault, taking};
 ghost use Rattle.archive_cli.specs.OpenedFiles.{CommitsIfDone, CommitsOne, LeavesFiles};
@@ -33,7 +33,7 @@ use std::alloc::Global;
 pub(crate) fn make<D: Disk>(alloc: Global, disk: D, config: &Config) -> (Outcome, D)
     requires config { IsConfig config.now }
     ensures crash { LeavesOnly D.Disk disk result.1
-        (MakingLeaves (empty_archive config.now) (D.content disk)) }
+        (MakingLeaves config.now (D.content disk)) }
     ensures made { MakesDisk config.now result.0 (D.content disk) (D.content result.1) }
     ensures cause { RoseIf (IsFault result.0) (D.faults disk) (D.faults result.1) }
 {
@@ -64,7 +64,7 @@ pub(crate) fn take<D: Disk>(
     requires moment { moment ≤ last_moment }
     ensures crash { RunsOrStays D.Disk disk result.1
         (LeavesEither (way_of command.now) (taking command.now moment)) }
-    ensures crash_between { RunsBetween D.Disk disk result.1 }
+    ensures crash_root { BeginsOneRoot D.Disk disk result.1 }
     ensures stands { (s : LastKnown) (cache : List ℕ) → StandsAs cache s (D.content disk)
         → (t : LastKnown) × StandsAs cache t (D.content result.1)
         × CommandTakes s (D.content disk) (taking command.now moment) result.0 t }
@@ -111,7 +111,7 @@ fn answered<D: Disk>(
         (D.content disk.old) (D.content disk.new)) }
     ensures untouched { OnRefusal result (UnlessFault result
         (OnlyLooks D.Disk disk.old disk.new)) }
-    ensures crash_between { RunsBetween D.Disk disk.old disk.new }
+    ensures crash_root { BeginsRootIn D.Disk (1 - archive.slot) disk.old disk.new }
     ensures for_command { IsForCommand command.now result }
     ensures cause { RoseIf (result ≡ Answer.DiskFault) (D.faults disk.old) (D.faults disk.new) }
 {
@@ -130,7 +130,7 @@ fn answered<D: Disk>(
 /// outlives a run, so it is opened and counted.
 pub(crate) fn reindex<D: Disk>(alloc: Global, disk: D) -> (Outcome, D)
     ensures crash { SyncsAtMost D.Disk disk result.1 }
-    ensures crash_between { RunsBetween D.Disk disk result.1 }
+    ensures crash_root { BeginsNoRoot D.Disk disk result.1 }
     ensures stands { (s : LastKnown) (cache : List ℕ) → StandsAs cache s (D.content disk)
         → (t : LastKnown) × StandsAs cache t (D.content result.1)
         × ReindexesOn s (D.content disk) result.0 t }
@@ -153,7 +153,7 @@ pub(crate) fn reindex<D: Disk>(alloc: Global, disk: D) -> (Outcome, D)
 /// Reads the whole archive on a disk, and counts its entries and live messages.
 pub(crate) fn check<D: Disk>(alloc: Global, disk: D) -> (Outcome, D)
     ensures crash { SyncsAtMost D.Disk disk result.1 }
-    ensures crash_between { RunsBetween D.Disk disk result.1 }
+    ensures crash_root { BeginsNoRoot D.Disk disk result.1 }
     ensures stands { (s : LastKnown) (cache : List ℕ) → StandsAs cache s (D.content disk)
         → (t : LastKnown) × StandsAs cache t (D.content result.1)
         × ChecksOn s (D.content disk) result.0 t }

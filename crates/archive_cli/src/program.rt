@@ -2,7 +2,7 @@
 //! Writes the disk; syncs.
 ghost use Rattle.std.specs.Prelude.{◌≡◌, ◌≤◌, ◌+◌, ◌++◌, ℕ, List, All, None, length, codes, decimal};
 ghost use Rattle.disk_model.specs.Moments.{LeavesOnly};
-ghost use Rattle.root_slots.specs.Between.{RunsBetween};
+ghost use Rattle.root_slots.specs.OneRoot.{BeginsNoRoot, BeginsOneRoot};
 ghost use Rattle.answer_lines.specs.Lines.{whole_line};
 ghost use Rattle.archive_cli.specs.Words.{spelled, AsksFor};
 ghost use Rattle.archive_cli.specs.declared.words.Job.TheVariants.{Serve};
@@ -59,11 +59,15 @@ pub fn run<D: Disk, H: Host, S: Source, O: Sink, C: Clock>(
     // What the job of the words does to the disk, and what a crash leaves at each moment of it.
     ensures crash { WordsLeave D.Disk (spelled words.now) disk result.1
         (S.left input.old) (C.coming clock.old) }
-    // Unless an archive is made, the bytes of the root file between its gates and its bodies are at
-    // each moment as before. While one is served, the next clause says so.
-    ensures crash_between { (AsksForInit (spelled words.now) → ⊥)
+    // Unless an archive is made or served, at most one root is begun, also where the disk fails: all
+    // bytes of the root file but those of one slot are at each moment as before.
+    ensures crash_root { (AsksForInit (spelled words.now) → ⊥)
         → ((turns port : ℕ) → AsksFor (spelled words.now) (Serve turns port) → ⊥)
-        → RunsBetween D.Disk disk result.1 }
+        → BeginsOneRoot D.Disk disk result.1 }
+    // None is begun unless the words ask for a command.
+    ensures crash_none { (AsksForMoment (spelled words.now) → ⊥)
+        → ((turns port : ℕ) → AsksFor (spelled words.now) (Serve turns port) → ⊥)
+        → BeginsNoRoot D.Disk disk result.1 }
     // What serving did: the events that it took, the replies to each over the archive of that moment,
     // the disk then, what a crash leaves, and why it ended. Its status and what is printed are those
     // of how it ended, unless the output failed.
@@ -177,7 +181,7 @@ fn put_input<D: Disk, S: Source, O: Sink, C: Clock>(
     ensures few { TookAtMost message_limit (S.left input.old) (S.left input.new) }
     ensures crash { MessageLeaves D.Disk disk result.1
         (S.left input.old) (C.coming clock.old) (putting_way place) (putting place) }
-    ensures crash_between { RunsBetween D.Disk disk result.1 }
+    ensures crash_root { BeginsOneRoot D.Disk disk result.1 }
     ensures disk_later { D.faults disk ≤ D.faults result.1 }
     ensures clock_later { C.faults clock.old ≤ C.faults clock.new }
     ensures sink { O.alike out.old out.new }
@@ -228,7 +232,7 @@ fn carry_out<D: Disk, O: Sink, C: Clock>(
         (C.faults clock.new) (D.content result.1) (D.faults result.1)) }
     ensures crash { CommandLeaves D.Disk disk result.1
         (C.coming clock.old) (way_of command.now) (taking command.now) }
-    ensures crash_between { RunsBetween D.Disk disk result.1 }
+    ensures crash_root { BeginsOneRoot D.Disk disk result.1 }
     ensures disk_later { D.faults disk ≤ D.faults result.1 }
     ensures clock_later { C.faults clock.old ≤ C.faults clock.new }
     ensures sink { O.alike out.old out.new }

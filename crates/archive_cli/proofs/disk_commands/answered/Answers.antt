@@ -1,10 +1,10 @@
-use Rattle.std.proofs.Common.{inl}
+use Rattle.std.proofs.Common.{◌-◌, inl}
 use Rattle.disk_model.specs.Moments.{started}
 use Rattle.archive_core.specs.Commands.{FilesFor, way_of}
 use Rattle.archive_core.specs.Walks.{looks-same}
 use Rattle.archive_core.proofs.Engines.{stands_for}
 use Rattle.archive_cli.specs.DiskCommands.{LeavesEither, taking}
-use Rattle.archive_cli.proofs.Committing.{commits-done, starved-answer, still-crash_between}
+use Rattle.archive_cli.proofs.Committing.{commits-done, starved-answer, in-still}
 use Rattle.archive_cli.proofs.disk_commands.answered.Goals as goal
 
 pub returns-then-not-has_next_root-clause-crash : goal.returns-then-not-has_next_root-clause-crash
@@ -23,8 +23,8 @@ returns-clause-done g c = λ a cache store. (c.command.new.self, c.command.ensur
 pub returns-then-not-has_next_root-clause-untouched : goal.returns-then-not-has_next_root-clause-untouched
 returns-then-not-has_next_root-clause-untouched g c = looks-same g.D.Disk g.met.D.Disk.only_now c.args.disk.now
 
-pub returns-then-not-has_next_root-clause-crash_between : goal.returns-then-not-has_next_root-clause-crash_between
-returns-then-not-has_next_root-clause-crash_between g c = still-crash_between g.D.Disk g.met.D.Disk.only_now c.args.disk.now
+pub returns-then-not-has_next_root-clause-crash_root : goal.returns-then-not-has_next_root-clause-crash_root
+returns-then-not-has_next_root-clause-crash_root g c = in-still g.D.Disk (1 - c.args.archive.slot) g.met.D.Disk.only_now c.args.disk.now
 
 pub returns-clause-commits : goal.returns-clause-commits
 returns-clause-commits g c =

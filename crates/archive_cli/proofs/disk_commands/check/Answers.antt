@@ -1,4 +1,6 @@
+use Rattle.std.proofs.Common.{Ok, Err}
 use Rattle.archive_core.proofs.Standing.{store_keeps}
+use Rattle.archive_cli.proofs.Committing.{opened-none}
 use Rattle.archive_cli.proofs.OnDisk.{opened-checks, opened-as, unopened-checks, opened-stands, unopened-stands, checked-cause, refused-cause}
 use Rattle.archive_cli.proofs.disk_commands.check.Goals as goal
 
@@ -39,11 +41,11 @@ returns-in-Ok-clause-files g c =
     let opened = c.in-Ok.ensures.opened in
     (c.in-Ok.counted, opened.answer, opened.kept, opened.done, opened.settled)
 
-pub returns-in-Ok-clause-crash_between : goal.returns-in-Ok-clause-crash_between
-returns-in-Ok-clause-crash_between g c = c.in-Ok.ensures.opened.crash_between
+pub returns-in-Ok-clause-crash_root : goal.returns-in-Ok-clause-crash_root
+returns-in-Ok-clause-crash_root g c = opened-none g.D.Disk c.args.disk c.open.new.disk (Ok c.in-Ok.counted) c.in-Ok.ensures.opened.crash_root
 
 pub returns-in-Err-clause-files : goal.returns-in-Err-clause-files
 returns-in-Err-clause-files g c = c.in-Err.ensures.refused
 
-pub returns-in-Err-clause-crash_between : goal.returns-in-Err-clause-crash_between
-returns-in-Err-clause-crash_between g c = c.in-Err.ensures.opened.crash_between
+pub returns-in-Err-clause-crash_root : goal.returns-in-Err-clause-crash_root
+returns-in-Err-clause-crash_root g c = opened-none g.D.Disk c.args.disk c.open.new.disk (Err c.in-Err.why) c.in-Err.ensures.opened.crash_root

@@ -1,3 +1,5 @@
+use Rattle.std.proofs.Common.{Ok, Err}
+use Rattle.archive_cli.proofs.Committing.{opened-none}
 use Rattle.archive_cli.proofs.OnDisk.{opened-live, opened-reindexes, unopened-reindexes, opened-stands, unopened-stands, reindexed-cause, refused-cause}
 use Rattle.archive_cli.proofs.disk_commands.reindex.Goals as goal
 
@@ -39,11 +41,11 @@ returns-in-Ok-clause-files g c =
     let opened = c.in-Ok.ensures.opened in
     rw c.into_disk.ensures (c.in-Ok.engine.view, opened.answer, opened.kept, opened.done, opened.settled)
 
-pub returns-in-Ok-clause-crash_between : goal.returns-in-Ok-clause-crash_between
-returns-in-Ok-clause-crash_between g c = rw c.into_disk.ensures c.in-Ok.ensures.opened.crash_between
+pub returns-in-Ok-clause-crash_root : goal.returns-in-Ok-clause-crash_root
+returns-in-Ok-clause-crash_root g c = rw c.into_disk.ensures (opened-none g.D.Disk c.args.disk c.in-Ok.engine.disk (Ok c.in-Ok.engine.view) c.in-Ok.ensures.opened.crash_root)
 
 pub returns-in-Err-clause-files : goal.returns-in-Err-clause-files
 returns-in-Err-clause-files g c = c.in-Err.ensures.refused
 
-pub returns-in-Err-clause-crash_between : goal.returns-in-Err-clause-crash_between
-returns-in-Err-clause-crash_between g c = c.in-Err.ensures.opened.crash_between
+pub returns-in-Err-clause-crash_root : goal.returns-in-Err-clause-crash_root
+returns-in-Err-clause-crash_root g c = opened-none g.D.Disk c.args.disk c.in-Err.field-0.disk (Err c.in-Err.field-0.why) c.in-Err.ensures.opened.crash_root

@@ -1,7 +1,9 @@
+use Rattle.std.proofs.Common.{Err}
 use Rattle.archive_core.specs.Commands.{FilesFor, way_of}
 use Rattle.archive_cli.specs.DiskCommands.{taking}
+use Rattle.root_slots.proofs.OneRoots.{none_begins}
 use Rattle.archive_cli.proofs.OnDisk.{unopened-takes, unopened-stands, taken-stands, taken-runs, unopened-runs, answered-cause, refused-cause}
-use Rattle.archive_cli.proofs.Committing.{opened-crash_between, opened-commits, opened-refused, opened-some}
+use Rattle.archive_cli.proofs.Committing.{opened-begins, opened-commits, opened-none, opened-refused, opened-some}
 use Rattle.archive_cli.proofs.disk_commands.take.Goals as goal
 
 pub returns-in-Ok-clause-crash : goal.returns-in-Ok-clause-crash
@@ -41,13 +43,13 @@ returns-in-Ok-clause-commits g c =
     let opened = c.in-Ok.ensures.opened in
     opened-commits (way_of c.args.command.now) (FilesFor c.args.command.now) c.in-Ok.archive (g.D.Disk.content c.args.disk) (g.D.Disk.content c.open.new.disk) (g.D.Disk.content c.answered-answer.new.disk) c.answered-answer.result opened.answer opened.kept c.answered-answer.ensures.commits
 
-pub returns-in-Ok-clause-crash_between : goal.returns-in-Ok-clause-crash_between
-returns-in-Ok-clause-crash_between g c =
+pub returns-in-Ok-clause-crash_root : goal.returns-in-Ok-clause-crash_root
+returns-in-Ok-clause-crash_root g c =
     let opened = c.in-Ok.ensures.opened in
-    opened-crash_between g.D.Disk c.in-Ok.archive c.args.disk c.open.new.disk c.answered-answer.new.disk (g.met.D.Disk.reads_fit c.args.disk) opened.answer opened.kept opened.settled opened.crash_between c.answered-answer.ensures.crash_between
+    opened-begins g.D.Disk c.in-Ok.archive c.args.disk c.open.new.disk c.answered-answer.new.disk (g.met.D.Disk.reads_fit c.args.disk) opened.answer opened.kept opened.settled opened.crash_root c.answered-answer.ensures.crash_root
 
-pub returns-in-Err-clause-crash_between : goal.returns-in-Err-clause-crash_between
-returns-in-Err-clause-crash_between g c = c.in-Err.ensures.opened.crash_between
+pub returns-in-Err-clause-crash_root : goal.returns-in-Err-clause-crash_root
+returns-in-Err-clause-crash_root g c = none_begins g.D.Disk c.args.disk c.open.new.disk (opened-none g.D.Disk c.args.disk c.open.new.disk (Err c.in-Err.why) c.in-Err.ensures.opened.crash_root)
 
 pub returns-in-Err-clause-files : goal.returns-in-Err-clause-files
 returns-in-Err-clause-files g c = c.in-Err.ensures.refused

@@ -2,7 +2,7 @@ use Rattle.std.proofs.Common.{inl, refl}
 use Rattle.archive_core.specs.Commands.{FilesFor, IsForCommand, way_of}
 use Rattle.archive_cli.specs.DiskCommands.{taking}
 use Rattle.archive_cli.specs.Program.{CommandActs}
-use Rattle.archive_cli.proofs.Committing.{still-crash_between}
+use Rattle.archive_cli.proofs.Committing.{still-one}
 use Rattle.archive_cli.proofs.Leaving.{command-first}
 use Rattle.archive_cli.proofs.Printed.{outcome-due}
 use Rattle.archive_cli.proofs.program.carry_out.Goals as goal
@@ -33,8 +33,8 @@ returns-clause-ends g c =
       disk_kept = c.take-outcome.ensures.cause.kept;
     }) c.print_outcome.ensures.printed)
 
-pub returns-in-Err-clause-crash_between : goal.returns-in-Err-clause-crash_between
-returns-in-Err-clause-crash_between g c = still-crash_between g.D.Disk g.met.D.Disk.only_now c.args.disk
+pub returns-in-Err-clause-crash_root : goal.returns-in-Err-clause-crash_root
+returns-in-Err-clause-crash_root g c = still-one g.D.Disk g.met.D.Disk.only_now c.args.disk
 
-pub returns-clause-crash_between : goal.returns-clause-crash_between
-returns-clause-crash_between g c = c.take-outcome.ensures.crash_between
+pub returns-clause-crash_root : goal.returns-clause-crash_root
+returns-clause-crash_root g c = c.take-outcome.ensures.crash_root

@@ -1,7 +1,6 @@
 use Rattle.std.proofs.Common.{inl, refl, subst}
 use Rattle.disk_model.specs.Moments.{LeavesOnly, started, weaker}
 use Rattle.arch_base.specs.declared.config.Config.{Config}
-use Rattle.arch_model.specs.Archives.{empty_archive}
 use Rattle.epoch_store.specs.First.{MakingLeaves}
 use Rattle.archive_cli.specs.Program.{InitActs, InitLeaves}
 use Rattle.archive_cli.proofs.Leaving.{init-first}
@@ -19,7 +18,7 @@ returns-clause-crash g c =
     let disk = c.args.disk in
     let k0 = g.D.Disk.content disk in
     let coming = g.C.Clock.coming c.args.clock.now in
-    let made = subst (λ (config : Config). LeavesOnly g.D.Disk disk c.make-outcome.result.1 (MakingLeaves (empty_archive config) k0)) c.config_at-config.ensures.at c.make-outcome.ensures.crash in
+    let made = subst (λ (config : Config). LeavesOnly g.D.Disk disk c.make-outcome.result.1 (MakingLeaves config k0)) c.config_at-config.ensures.at c.make-outcome.ensures.crash in
     weaker g.D.Disk disk c.make-outcome.result.1 _ (InitLeaves c.args.config coming k0) made (λ image leaves. (c.in-Ok.moment, c.in-Ok.ensures.first, leaves))
 
 pub returns-clause-ends : goal.returns-clause-ends

@@ -5,7 +5,7 @@ use Rattle.archive_core.specs.Commands.{FilesFor, IsForCommand, way_of}
 use Rattle.epoch_store.specs.Promises.{WriteKind}
 use Rattle.archive_cli.specs.DiskCommands.{taking}
 use Rattle.archive_cli.specs.Program.{CommandActs, MessageActs, CommandLeaves, putting, putting_way, message_of}
-use Rattle.archive_cli.proofs.Committing.{still-crash_between}
+use Rattle.archive_cli.proofs.Committing.{still-one}
 use Rattle.archive_cli.proofs.Leaving.{message-first, message-runs}
 use Rattle.archive_cli.proofs.Printed.{unread-due, job-as, job-moved, message-as}
 use Rattle.archive_cli.proofs.program.put_input.Goals as goal
@@ -48,14 +48,14 @@ returns-in-Ok-clause-crash g c =
     message-runs g.D.Disk coming (g.S.Source.left c.args.input.now) (putting_way place) (putting place) c.args.disk c.carry_out.result.1 c.in-Ok.bytes c.in-Ok.ensures.read.0
     (subst (λ (b : List ℕ). CommandLeaves g.D.Disk c.args.disk c.carry_out.result.1 coming (putting_way place) (putting place b)) c.as_slice.ensures run)
 
-pub returns-in-Err-Fault-clause-crash_between : goal.returns-in-Err-Fault-clause-crash_between
-returns-in-Err-Fault-clause-crash_between g c = still-crash_between g.D.Disk g.met.D.Disk.only_now c.args.disk
+pub returns-in-Err-Fault-clause-crash_root : goal.returns-in-Err-Fault-clause-crash_root
+returns-in-Err-Fault-clause-crash_root g c = still-one g.D.Disk g.met.D.Disk.only_now c.args.disk
 
-pub returns-in-Err-TooLong-clause-crash_between : goal.returns-in-Err-TooLong-clause-crash_between
-returns-in-Err-TooLong-clause-crash_between g c = still-crash_between g.D.Disk g.met.D.Disk.only_now c.args.disk
+pub returns-in-Err-TooLong-clause-crash_root : goal.returns-in-Err-TooLong-clause-crash_root
+returns-in-Err-TooLong-clause-crash_root g c = still-one g.D.Disk g.met.D.Disk.only_now c.args.disk
 
-pub returns-in-Err-NoMemory-clause-crash_between : goal.returns-in-Err-NoMemory-clause-crash_between
-returns-in-Err-NoMemory-clause-crash_between g c = still-crash_between g.D.Disk g.met.D.Disk.only_now c.args.disk
+pub returns-in-Err-NoMemory-clause-crash_root : goal.returns-in-Err-NoMemory-clause-crash_root
+returns-in-Err-NoMemory-clause-crash_root g c = still-one g.D.Disk g.met.D.Disk.only_now c.args.disk
 
-pub returns-in-Ok-clause-crash_between : goal.returns-in-Ok-clause-crash_between
-returns-in-Ok-clause-crash_between g c = c.carry_out.ensures.crash_between
+pub returns-in-Ok-clause-crash_root : goal.returns-in-Ok-clause-crash_root
+returns-in-Ok-clause-crash_root g c = c.carry_out.ensures.crash_root

@@ -10,7 +10,8 @@ use Rattle.archive_cli.specs.Words.{spelled}
 use Rattle.archive_cli.specs.declared.words.Job.TheVariants.{Help, Version, Replay, Load, Init, Deliver, Remove, Purge, Edit, Reindex, Check, Serve}
 use Rattle.archive_cli.specs.declared.status.Status.TheVariants as exit
 use Rattle.archive_cli.specs.declared.texts.TheConstants.{HELP, VERSION}
-use Rattle.archive_cli.proofs.Committing.{still-crash_between}
+use Rattle.root_slots.proofs.OneRoots.{none_begins}
+use Rattle.archive_cli.proofs.Committing.{still-none, still-one}
 use Rattle.archive_cli.proofs.Grammar.{replay-config, init-config, same-serve}
 use Rattle.archive_cli.proofs.Printed.{ran-exactly, ran-replayed, ran-loaded, ran-made, ran-put, ran-command, ran-reindexed, ran-checked, ran-served, job-moved, some-moment}
 use Rattle.archive_cli.proofs.ServedDisk.{shut-faults}
@@ -177,41 +178,80 @@ returns-in-Some-Remove-clause-clock g c = λ none. absurd (none (inr (inr (inl (
 pub returns-in-Some-Purge-clause-clock : goal.returns-in-Some-Purge-clause-clock
 returns-in-Some-Purge-clause-clock g c = λ none. absurd (none (inr (inr (inr (c.in-Some-Purge.number, rw c.in-Some-Purge.field-0-is at c.in-Some-Purge.ensures)))))
 
-pub returns-in-None-clause-crash_between : goal.returns-in-None-clause-crash_between
-returns-in-None-clause-crash_between g c = λ made serves. still-crash_between g.D.Disk g.met.D.Disk.only_now c.args.disk
+pub returns-in-None-clause-crash_root : goal.returns-in-None-clause-crash_root
+returns-in-None-clause-crash_root g c = λ made serves. still-one g.D.Disk g.met.D.Disk.only_now c.args.disk
 
-pub returns-in-Some-Help-clause-crash_between : goal.returns-in-Some-Help-clause-crash_between
-returns-in-Some-Help-clause-crash_between g c = λ made serves. still-crash_between g.D.Disk g.met.D.Disk.only_now c.args.disk
+pub returns-in-None-clause-crash_none : goal.returns-in-None-clause-crash_none
+returns-in-None-clause-crash_none g c = λ commands serves. still-none g.D.Disk g.met.D.Disk.only_now c.args.disk
 
-pub returns-in-Some-Version-clause-crash_between : goal.returns-in-Some-Version-clause-crash_between
-returns-in-Some-Version-clause-crash_between g c = λ made serves. still-crash_between g.D.Disk g.met.D.Disk.only_now c.args.disk
+pub returns-in-Some-Help-clause-crash_root : goal.returns-in-Some-Help-clause-crash_root
+returns-in-Some-Help-clause-crash_root g c = λ made serves. still-one g.D.Disk g.met.D.Disk.only_now c.args.disk
 
-pub returns-in-Some-Replay-clause-crash_between : goal.returns-in-Some-Replay-clause-crash_between
-returns-in-Some-Replay-clause-crash_between g c = λ made serves. still-crash_between g.D.Disk g.met.D.Disk.only_now c.args.disk
+pub returns-in-Some-Help-clause-crash_none : goal.returns-in-Some-Help-clause-crash_none
+returns-in-Some-Help-clause-crash_none g c = λ commands serves. still-none g.D.Disk g.met.D.Disk.only_now c.args.disk
 
-pub returns-in-Some-Load-clause-crash_between : goal.returns-in-Some-Load-clause-crash_between
-returns-in-Some-Load-clause-crash_between g c = λ made serves. still-crash_between g.D.Disk g.met.D.Disk.only_now c.args.disk
+pub returns-in-Some-Version-clause-crash_root : goal.returns-in-Some-Version-clause-crash_root
+returns-in-Some-Version-clause-crash_root g c = λ made serves. still-one g.D.Disk g.met.D.Disk.only_now c.args.disk
 
-pub returns-in-Some-Deliver-clause-crash_between : goal.returns-in-Some-Deliver-clause-crash_between
-returns-in-Some-Deliver-clause-crash_between g c = λ made serves. c.put_input-status.ensures.crash_between
+pub returns-in-Some-Version-clause-crash_none : goal.returns-in-Some-Version-clause-crash_none
+returns-in-Some-Version-clause-crash_none g c = λ commands serves. still-none g.D.Disk g.met.D.Disk.only_now c.args.disk
 
-pub returns-in-Some-Remove-clause-crash_between : goal.returns-in-Some-Remove-clause-crash_between
-returns-in-Some-Remove-clause-crash_between g c = λ made serves. c.carry_out-status.ensures.crash_between
+pub returns-in-Some-Replay-clause-crash_root : goal.returns-in-Some-Replay-clause-crash_root
+returns-in-Some-Replay-clause-crash_root g c = λ made serves. still-one g.D.Disk g.met.D.Disk.only_now c.args.disk
 
-pub returns-in-Some-Purge-clause-crash_between : goal.returns-in-Some-Purge-clause-crash_between
-returns-in-Some-Purge-clause-crash_between g c = λ made serves. c.carry_out-status-in-Some-Purge.ensures.crash_between
+pub returns-in-Some-Replay-clause-crash_none : goal.returns-in-Some-Replay-clause-crash_none
+returns-in-Some-Replay-clause-crash_none g c = λ commands serves. still-none g.D.Disk g.met.D.Disk.only_now c.args.disk
 
-pub returns-in-Some-Edit-clause-crash_between : goal.returns-in-Some-Edit-clause-crash_between
-returns-in-Some-Edit-clause-crash_between g c = λ made serves. c.put_input-status-in-Some-Edit.ensures.crash_between
+pub returns-in-Some-Load-clause-crash_root : goal.returns-in-Some-Load-clause-crash_root
+returns-in-Some-Load-clause-crash_root g c = λ made serves. still-one g.D.Disk g.met.D.Disk.only_now c.args.disk
 
-pub returns-in-Some-Reindex-clause-crash_between : goal.returns-in-Some-Reindex-clause-crash_between
-returns-in-Some-Reindex-clause-crash_between g c = λ made serves. c.reindex-outcome.ensures.crash_between
+pub returns-in-Some-Load-clause-crash_none : goal.returns-in-Some-Load-clause-crash_none
+returns-in-Some-Load-clause-crash_none g c = λ commands serves. still-none g.D.Disk g.met.D.Disk.only_now c.args.disk
 
-pub returns-in-Some-Check-clause-crash_between : goal.returns-in-Some-Check-clause-crash_between
-returns-in-Some-Check-clause-crash_between g c = λ made serves. c.check-outcome.ensures.crash_between
+pub returns-in-Some-Reindex-clause-crash_root : goal.returns-in-Some-Reindex-clause-crash_root
+returns-in-Some-Reindex-clause-crash_root g c = λ made serves. none_begins g.D.Disk c.args.disk _ c.reindex-outcome.ensures.crash_root
 
-pub returns-in-Some-Init-clause-crash_between : goal.returns-in-Some-Init-clause-crash_between
-returns-in-Some-Init-clause-crash_between g c = λ made serves. absurd (made (c.in-Some-Init.config, rw c.in-Some-Init.field-0-is at c.in-Some-Init.ensures))
+pub returns-in-Some-Reindex-clause-crash_none : goal.returns-in-Some-Reindex-clause-crash_none
+returns-in-Some-Reindex-clause-crash_none g c = λ commands serves. c.reindex-outcome.ensures.crash_root
 
-pub returns-in-Some-Serve-clause-crash_between : goal.returns-in-Some-Serve-clause-crash_between
-returns-in-Some-Serve-clause-crash_between g c = λ made serves. absurd (serves c.in-Some-Serve.turns c.in-Some-Serve._port (rw c.in-Some-Serve.field-0-is at c.in-Some-Serve.ensures))
+pub returns-in-Some-Check-clause-crash_root : goal.returns-in-Some-Check-clause-crash_root
+returns-in-Some-Check-clause-crash_root g c = λ made serves. none_begins g.D.Disk c.args.disk _ c.check-outcome.ensures.crash_root
+
+pub returns-in-Some-Check-clause-crash_none : goal.returns-in-Some-Check-clause-crash_none
+returns-in-Some-Check-clause-crash_none g c = λ commands serves. c.check-outcome.ensures.crash_root
+
+pub returns-in-Some-Deliver-clause-crash_root : goal.returns-in-Some-Deliver-clause-crash_root
+returns-in-Some-Deliver-clause-crash_root g c = λ made serves. c.put_input-status.ensures.crash_root
+
+pub returns-in-Some-Deliver-clause-crash_none : goal.returns-in-Some-Deliver-clause-crash_none
+returns-in-Some-Deliver-clause-crash_none g c = λ commands serves. absurd (commands (inr (inl (inl (rw c.in-Some-Deliver.field-0-is at c.in-Some-Deliver.ensures)))))
+
+pub returns-in-Some-Remove-clause-crash_root : goal.returns-in-Some-Remove-clause-crash_root
+returns-in-Some-Remove-clause-crash_root g c = λ made serves. c.carry_out-status.ensures.crash_root
+
+pub returns-in-Some-Remove-clause-crash_none : goal.returns-in-Some-Remove-clause-crash_none
+returns-in-Some-Remove-clause-crash_none g c = λ commands serves. absurd (commands (inr (inr (inl (c.in-Some-Remove.number, rw c.in-Some-Remove.field-0-is at c.in-Some-Remove.ensures)))))
+
+pub returns-in-Some-Purge-clause-crash_root : goal.returns-in-Some-Purge-clause-crash_root
+returns-in-Some-Purge-clause-crash_root g c = λ made serves. c.carry_out-status-in-Some-Purge.ensures.crash_root
+
+pub returns-in-Some-Purge-clause-crash_none : goal.returns-in-Some-Purge-clause-crash_none
+returns-in-Some-Purge-clause-crash_none g c = λ commands serves. absurd (commands (inr (inr (inr (c.in-Some-Purge.number, rw c.in-Some-Purge.field-0-is at c.in-Some-Purge.ensures)))))
+
+pub returns-in-Some-Edit-clause-crash_root : goal.returns-in-Some-Edit-clause-crash_root
+returns-in-Some-Edit-clause-crash_root g c = λ made serves. c.put_input-status-in-Some-Edit.ensures.crash_root
+
+pub returns-in-Some-Edit-clause-crash_none : goal.returns-in-Some-Edit-clause-crash_none
+returns-in-Some-Edit-clause-crash_none g c = λ commands serves. absurd (commands (inr (inl (inr (c.in-Some-Edit.number, rw c.in-Some-Edit.field-0-is at c.in-Some-Edit.ensures)))))
+
+pub returns-in-Some-Init-clause-crash_root : goal.returns-in-Some-Init-clause-crash_root
+returns-in-Some-Init-clause-crash_root g c = λ made serves. absurd (made (c.in-Some-Init.config, rw c.in-Some-Init.field-0-is at c.in-Some-Init.ensures))
+
+pub returns-in-Some-Init-clause-crash_none : goal.returns-in-Some-Init-clause-crash_none
+returns-in-Some-Init-clause-crash_none g c = λ commands serves. absurd (commands (inl (c.in-Some-Init.config, rw c.in-Some-Init.field-0-is at c.in-Some-Init.ensures)))
+
+pub returns-in-Some-Serve-clause-crash_root : goal.returns-in-Some-Serve-clause-crash_root
+returns-in-Some-Serve-clause-crash_root g c = λ made serves. absurd (serves c.in-Some-Serve.turns c.in-Some-Serve._port (rw c.in-Some-Serve.field-0-is at c.in-Some-Serve.ensures))
+
+pub returns-in-Some-Serve-clause-crash_none : goal.returns-in-Some-Serve-clause-crash_none
+returns-in-Some-Serve-clause-crash_none g c = λ commands serves. absurd (serves c.in-Some-Serve.turns c.in-Some-Serve._port (rw c.in-Some-Serve.field-0-is at c.in-Some-Serve.ensures))

@@ -1,9 +1,10 @@
-use Rattle.std.proofs.Common.{refl, ap, not, ◌∙◌, ℕ}
+use Rattle.std.proofs.Common.{refl, ap, not, ◌∙◌, ℕ, Ok, Err}
 use Rattle.archive_core.specs.Engines.{Owning, is_ready, store-left}
 use Rattle.node_serve.specs.Nodes.{stage}
 use Rattle.node_serve.specs.World.{outer}
 use Rattle.archive_cli.specs.Serving.{Shut, Ended}
-use Rattle.archive_cli.proofs.Committing.{opened-went}
+use Rattle.archive_core.proofs.RootBytes.{opens-between}
+use Rattle.archive_cli.proofs.Committing.{opened-none, opened-went}
 use Rattle.archive_cli.proofs.OnDisk.{unopened-stands}
 use Rattle.archive_cli.proofs.ServedDisk.{served-on, shut-cause}
 use Rattle.archive_cli.proofs.serving.serve_disk.Goals as goal
@@ -29,7 +30,7 @@ returns-in-Ok-clause-serves g c =
         opened = c.in-Ok.engine.disk;
         settles = (c.in-Ok.engine.view, opened.answer, opened.kept, opened.done, opened.settled);
         crash = opened.first;
-        crash_between = opened.crash_between;
+        crash_root = opened-none g.D.Disk c.args.disk c.in-Ok.engine.disk (Ok c.in-Ok.engine.view) opened.crash_root;
         first = first;
         begins = record { unopened = c.new-node.ensures.none; count = c.new-node.ensures.count; noted = c.new-node.ensures.idling; out_is = out };
         first_disk = ap (λ (e : Owning g.row.D.Denot). e.disk) c.new-node.ensures.keep;
@@ -45,7 +46,7 @@ returns-in-Ok-clause-serves g c =
         records = λ past noted. served.records past noted;
         served = λ a cache reads.
             served-on g.D.Disk g.met.D.Disk.counts_now g.met.D.Disk.only_now g.met.D.Disk.reads_fit (λ e b may held has. store-left g.D.Disk g.met.D.Disk.counts_now g.met.D.Disk.only_now e b may (held.0, held.1) has) c.law_of_recovery.ensures.some_one c.law_of_recovery.ensures.caches c.law_of_numbers.ensures.itself c.law_of_commands.ensures.follows a cache
-            c.args.disk c.in-Ok.engine c.new-node.result c.serve-end.new.node served.arrivals served.stages _ _ c.new-node.ensures.keep (opened.done a cache reads) (c.in-Ok.ensures.rows a cache reads) opened.settled opened.first opened.crash_between (opened-went c.in-Ok.engine.view (content c.args.disk) (content c.in-Ok.engine.disk) (g.met.D.Disk.reads_fit c.args.disk) opened.answer opened.kept opened.settled)
+            c.args.disk c.in-Ok.engine c.new-node.result c.serve-end.new.node served.arrivals served.stages _ _ c.new-node.ensures.keep (opened.done a cache reads) (c.in-Ok.ensures.rows a cache reads) opened.settled opened.first (opens-between g.D.Disk c.args.disk c.in-Ok.engine.disk (Ok c.in-Ok.engine.view) opened.crash_root) (opened-went c.in-Ok.engine.view (content c.args.disk) (content c.in-Ok.engine.disk) (g.met.D.Disk.reads_fit c.args.disk) opened.answer opened.kept opened.settled)
             c.new-node.ensures.none c.new-node.ensures.idling (λ t fits suits. served.runs t fits suits) reads;
       }),
       c.print_end.ensures.printed,
@@ -61,7 +62,7 @@ returns-in-Err-clause-serves g c =
         answer = opened.answer;
         unopened = c.in-Err.ensures.refused;
         crash = opened.before;
-        crash_between = opened.crash_between;
+        crash_root = opened-none g.D.Disk c.args.disk c.in-Err.field-0.disk (Err why) opened.crash_root;
         stands = λ s cache all. unopened-stands g.D.Disk g.met.D.Disk.counts_now g.met.D.Disk.reads_fit s cache c.args.disk c.in-Err.field-0.disk why all opened.before opened.well opened.first;
         cause = shut-cause (g.D.Disk.faults c.args.disk) (g.D.Disk.faults c.in-Err.field-0.disk) why opened.cause;
         records = λ past noted. noted;
