@@ -10,9 +10,9 @@ use Rattle.disk_model.specs.Synced.{WritingLeaves, IsWritten}
 use Rattle.disk_model.specs.Tells.{told_then, told_where}
 use Rattle.root_slots.specs.RootName.{root_name}
 use Rattle.root_slots.specs.Each.{IfThere, EachRoot, each_writing, each_written, elsewhere_before}
-use Rattle.root_slots.specs.Slots.{HasRootSize, gate, body_offset, body_at, sequence_of, Current, HasRoot, Ready, IsShut, IsShutFile, IsCommitted, HasNewRoot}
-use Rattle.epoch_store.specs.First.{AreZeros, ShutOrFirst}
-use Rattle.root_slots.proofs.Phases.{body_stays, body_written, overlay-byte, raised}
+use Rattle.root_slots.specs.Slots.{HasRootSize, gate, body_offset, body_at, sequence_of, Current, Ready, IsShut, IsShutFile, IsCommitted, HasNewRoot}
+use Rattle.epoch_store.specs.First.{AreZeros, IsFirstRoot, ShutOrFirst}
+use Rattle.root_slots.proofs.Phases.{body_stays, body_written, overlay-byte, overlay_same, raised}
 
 -- A root file that is shut and has a body in slot 0, and in slot 1 one of sequence 0.
 pub record HasFirst (body file : List ℕ) : Type 0 where
@@ -21,6 +21,7 @@ pub record HasFirst (body file : List ℕ) : Type 0 where
   pub other : gate file 1 ≡ 0
   pub holds : body_at file 0 ≡ body
   pub oldest : sequence_of (body_at file 1) ≡ 0
+  pub rest : file ≡ overlay (body_offset 0) body (replicate 4096 0)
 
 -- A byte of a file of zeros.
 zero_at : (n : ℕ) (file : List ℕ) (i : ℕ) → file ≡ replicate n 0 → i < n → get_or file i 0 ≡ 0
@@ -53,6 +54,7 @@ module _ (n : ℕ) (file : List ℕ) (is : file ≡ replicate n 0) (count : n �
         other = torn.bytes 1 (inl (omega arith)) ∙ zero_at n file 1 is (omega (arith, count));
         holds = body_written 0 body file whole (omega (arith, size));
         oldest = ap sequence_of (body_stays (body_offset 0) (length body) 1 file (overlay (body_offset 0) body file) torn (inr (omega (arith, whole)))) ∙ zero_sequence n file is count;
+        rest = ap (overlay (body_offset 0) body) (is ∙ ap (λ (m : ℕ). replicate m 0) count);
       }
 
 -- A gate that is opened.
@@ -61,11 +63,16 @@ first_raised body a b first same opened =
     let shut = first.other in
     raised 0 body a b (omega arith) first.size first.holds (λ one. absurd (omega (arith, shut, one))) same opened
 
+-- A file whose first gate is open has that byte.
+open_byte : (b : List ℕ) → gate b 0 ≡ 1 → overlay 0 (1 ∷ []) b ≡ b
+open_byte [] is = absurd (omega (arith, is))
+open_byte (x ∷ xs) is = ap (λ (n : ℕ). n ∷ xs) (sym is)
+
 -- Any byte in the gate.
-first_torn : (body a b : List ℕ) → HasFirst body a → SameOutside 0 1 a b → IsShut b ⊎ HasRoot body b
+first_torn : (body a b : List ℕ) → HasFirst body a → SameOutside 0 1 a b → IsShut b ⊎ IsFirstRoot body b
 first_torn body a b first same =
     let shut : gate b 1 ≡ 0 = same.bytes 1 (inr (omega arith)) ∙ first.other in
-    elim (cases_eq (gate b 0) 1) [ inl opened ↦ inr (0, first_raised body a b first same opened) | inr closed ↦ inl (inr (closed, λ one. absurd (omega (arith, shut, one)))) ]
+    elim (cases_eq (gate b 0) 1) [ inl opened ↦ inr (record { current = first_raised body a b first same opened; rest = sym (open_byte b opened) ∙ (overlay_same 0 (1 ∷ []) a b same ∙ ap (overlay 0 (1 ∷ [])) first.rest) }) | inr closed ↦ inl (inr (closed, λ one. absurd (omega (arith, shut, one)))) ]
 
 -- The other slot is then ready for the next root.
 first_ready : (body file : List ℕ) → HasFirst body file → 0 < sequence_of body → Ready 1 body (overlay 0 (1 ∷ []) file)
@@ -81,10 +88,10 @@ first_ready body file first newer =
 
 -- No slot is open, or the root is there.
 abbrev pub EitherFirst : List ℕ → List ℕ → Type 0
-EitherFirst body file = IsShut file ⊎ HasRoot body file
+EitherFirst body file = IsShut file ⊎ IsFirstRoot body file
 
 -- A file that is there has no open slot, or the root.
-which : (body : List ℕ) (file : File) → IfThere (EitherFirst body) file → IsShutFile file ⊎ IfThere (HasRoot body) file
+which : (body : List ℕ) (file : File) → IfThere (EitherFirst body) file → IsShutFile file ⊎ IfThere (IsFirstRoot body) file
 which body None there = absurd there
 which body (Some file) there = there
 

@@ -32,7 +32,7 @@ use Rattle.arch_model.specs.Validity.{IsArchive}
 use Rattle.store_finding.specs.Recovery.{map_bytes, parts_of, NamesArchive}
 use Rattle.store_finding.specs.Kept.{IsDiskOf}
 use Rattle.epoch_store.specs.Commands.{StoreHasSizes}
-use Rattle.epoch_store.specs.First.{MakesRoot, MakingLeaves, HasOnly, first_root_of}
+use Rattle.epoch_store.specs.First.{IsFirstRoot, MakesRoot, MakingLeaves, HasOnly, first_root_of}
 use Rattle.root_change.proofs.Drops.{unnamed_apart}
 use Rattle.store_finding.proofs.FindingTold.{where_so}
 use Rattle.epoch_store.proofs.Making.{first_is_root}
@@ -103,11 +103,16 @@ empty_stands config image there = record {
   fronts = λ name apart. no_front config name (image name);
 }
 
+-- The first root is the current one.
+first_there : (body : List ℕ) (file : File) → IfThere (IsFirstRoot body) file → IfThere (HasRoot body) file
+first_there body None there = absurd there
+first_there body (Some file) there = (0, there.current)
+
 -- What a crash leaves while the root is created.
-pub makes_empty : (config : Config) (old k : Option Content) (image : Files) → IsArchiveName config.name → IsConfig config → (k ≡ None → old ≡ None) → WhereTold (λ c. IsShutFile (c root_name).seen) old → MakesRoot (spelling (first_root_of config)) k image → MakingLeaves (empty_archive config) old image
+pub makes_empty : (config : Config) (old k : Option Content) (image : Files) → IsArchiveName config.name → IsConfig config → (k ≡ None → old ≡ None) → WhereTold (λ c. IsShutFile (c root_name).seen) old → MakesRoot (spelling (first_root_of config)) k image → MakingLeaves config old image
 makes_empty config old None image name valid same was makes = inl (subst (λ (o : Option Content). Image o image) (sym (same refl)) tt)
 makes_empty config old (Some k) image name valid same was (inl shut) = inr (was, inl shut)
-makes_empty config old (Some k) image name valid same was (inr there) = inr (was, inr (first_root_of config, record { valid = empty_valid config name valid; names = empty_names config name valid; cache_fits = omega arith; stands = empty_stands config image there }))
+makes_empty config old (Some k) image name valid same was (inr there) = inr (was, inr ((first_root_of config, record { valid = empty_valid config name valid; names = empty_names config name valid; cache_fits = omega arith; stands = empty_stands config image (first_there (spelling (first_root_of config)) (image root_name) there) }), there))
 
 -- A root that is ready is there.
 root_there : (body : List ℕ) (file : File) → IfThere (Ready 1 body) file → IfThere (HasRoot body) file
@@ -188,9 +193,9 @@ none_before (Some k) (Some m) (Some n) synced same none = let wrong : Some n ≡
 module _ (config : Config) (name : IsArchiveName config.name) (valid : IsConfig config) (root : Root) (root_is : root ≡ first_root_of config) (k0 k1 k2 : Option Content) (synced : BothTold Synced k0 k1) (same : BothTold Unchanged k1 k2) (shut : WhereTold (λ k. IsShutFile (k root_name).seen) k0) where
   -- What a crash leaves at each moment of it.
   pub making_leaves : {D : Type 0} (g : Disk D) (disk d1 d2 new : D) → ReadsFit k0 → LeavesOnly g disk d1 (Image k0) → LeavesOnly g d1 d2 (Image k1)
-      → (EachShut k2 → LeavesOnly g d2 new (MakesRoot (spelling root) k2)) → LeavesOnly g disk new (MakingLeaves (empty_archive config) k0)
+      → (EachShut k2 → LeavesOnly g d2 new (MakesRoot (spelling root) k2)) → LeavesOnly g disk new (MakingLeaves config k0)
   making_leaves g disk d1 d2 new fit looks lists makes =
-      let P = MakingLeaves (empty_archive config) k0 in
+      let P = MakingLeaves config k0 in
       let body = spelling (first_root_of config) in
       let first = joined g disk d1 d2 (Image k0) (Image k1) P looks lists (λ image left. inl left) (λ image left. inl (synced_fewer k0 k1 image fit synced left)) in
       let made : LeavesOnly g d2 new (MakesRoot body k2) =

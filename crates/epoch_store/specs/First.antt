@@ -9,10 +9,11 @@ use Rattle.epoch_store.specs.declared.refusal.InitRefusal.{InitRefusal}
 use Rattle.epoch_store.specs.declared.refusal.InitRefusal.TheVariants.{Exists, DiskFault}
 use Rattle.disk_model.specs.Disk.{File, Files, Content, Image, BothTold, WhereTold, MaySurvive}
 use Rattle.disk_model.specs.Synced.{IsSettled}
-use Rattle.arch_model.specs.Archives.{Archive}
+use Rattle.arch_model.specs.Archives.{empty_archive}
 use Rattle.root_slots.specs.RootName.{root_name}
 use Rattle.root_slots.specs.Each.{IfThere}
-use Rattle.root_slots.specs.Slots.{root_size, Elsewhere, HasFirstRoot, HasRoot, Ready, IsShutFile}
+use Rattle.root_slots.specs.Slots.{root_size, Current, Elsewhere, HasFirstRoot, Ready, IsShutFile, with_root}
+use Rattle.root_slots.specs.Spelling.{spelling}
 use Rattle.store_finding.specs.Recovery.{Recovers}
 use Rattle.epoch_store.specs.Opens.{IsOnlySynced}
 
@@ -20,10 +21,16 @@ use Rattle.epoch_store.specs.Opens.{IsOnlySynced}
 abbrev pub AreZeros : List ℕ → Type 0
 AreZeros file = file ≡ replicate root_size 0
 
+-- A root file has this body as its first root: in the first slot, whose gate is open, and all else is
+-- zeros.
+pub record IsFirstRoot (body file : List ℕ) : Type 0 where
+  pub current : Current 0 body file
+  pub rest : file ≡ with_root 0 body (replicate root_size 0)
+
 -- No slot is open, or the first root is there; all other files are as a crash before might have
 -- left them.
 pub record IsShutOrFirst (body : List ℕ) (k : Content) (image : Files) : Type 0 where
-  pub root : IsShutFile (image root_name) ⊎ IfThere (HasRoot body) (image root_name)
+  pub root : IsShutFile (image root_name) ⊎ IfThere (IsFirstRoot body) (image root_name)
   pub elsewhere : Elsewhere k image
 
 -- The same, if the disk tells its content.
@@ -31,15 +38,9 @@ abbrev pub ShutOrFirst : List ℕ → Option Content → Files → Type 0
 ShutOrFirst body None image = Unit {0}
 ShutOrFirst body (Some k) image = IsShutOrFirst body k image
 
--- What a crash leaves while an archive is created: what it might have left before; and if no slot
--- was open, no open slot, or the archive without entries.
-abbrev pub MakingLeaves : Archive → Option Content → Files → Type 0
-MakingLeaves a content image = Image content image ⊎ (WhereTold (λ k.
-    IsShutFile (k root_name).seen) content × (IsShutFile (image root_name) ⊎ Recovers image a))
-
--- No slot is open, or the root of this body is there.
+-- No slot is open, or the first root is there, with this body.
 abbrev pub ShutOrRoot : List ℕ → Files → Type 0
-ShutOrRoot body image = IsShutFile (image root_name) ⊎ IfThere (HasRoot body) (image root_name)
+ShutOrRoot body image = IsShutFile (image root_name) ⊎ IfThere (IsFirstRoot body) (image root_name)
 
 -- The same, if the disk tells its content.
 abbrev pub MakesRoot : List ℕ → Option Content → Files → Type 0
@@ -56,6 +57,19 @@ first_root_of config = record {
   epochs = replicate epoch_count no_place;
   cache = no_place;
 }
+
+-- Files stand for the archive of these settings without entries, by its first root, which is the only
+-- one of the root file.
+abbrev pub RecoversFirst : Config → Files → Type 0
+RecoversFirst config image = Recovers image (empty_archive config)
+    × IfThere (IsFirstRoot (spelling (first_root_of config))) (image root_name)
+
+-- What a crash leaves while an archive of these settings is created: what it might have left before;
+-- and if no slot was open, no open slot, or that archive by its first root.
+abbrev pub MakingLeaves : Config → Option Content → Files → Type 0
+MakingLeaves config content image = Image content image ⊎ (WhereTold (λ k.
+    IsShutFile (k root_name).seen) content
+    × (IsShutFile (image root_name) ⊎ RecoversFirst config image))
 
 -- A disk has a root of this body in the first slot of a root file that is otherwise zeros, the other
 -- slot is ready for the next one, there is no other file, and all that reads give is on the disk.

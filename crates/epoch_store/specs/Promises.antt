@@ -33,14 +33,15 @@ use Rattle.store_finding.specs.Kept.{StoreState, IsDiskOf, IsStoreWith}
 use Rattle.epoch_store.specs.Commands.{RootGoesOn, StoreHasSizes, RecoversOneOf, GoesOnAnew, UnlessFailed}
 use Rattle.store_planning.specs.Dropping.{SeesNoDamage}
 
--- An archive without entries is made, of these settings. At each moment a crash leaves what it might
--- have left before; if no slot was open, it may also leave no open slot, or the archive. The answer
+-- An archive without entries is made, of these settings. At each moment, also after a fault, a crash
+-- leaves what it might have left before; if no slot was open, it may also leave no open slot, or the
+-- archive by its first root and no other. The answer
 -- is by the root file as it reads, and an error comes before anything is changed. After `Ok` the
 -- disk is the archive's own, its root is the first one and in slot 0, and all that reads give is on
 -- the disk. It fails only if the count of faults rose.
 pub record MakesArchive {D : Type 0} (g : Disk D) (old new : D) (config : Config)
     (result : Result StoreState InitRefusal) : Type 0 where
-  pub crash : LeavesOnly g old new (MakingLeaves (empty_archive config) (g.content old))
+  pub crash : LeavesOnly g old new (MakingLeaves config (g.content old))
   pub answer : WhereTold (MakingAnswers result) (g.content old)
   pub refused : RefusesToMake result (g.content old) (g.content new)
   pub done : IfOk result (λ (v : StoreState). WhereTold (IsDiskOf v (empty_archive config))

@@ -30,7 +30,7 @@ overlay_outside at n to bytes a b inside same =
     }
 
 -- A write of the whole range makes them equal.
-overlay_same : (at : ℕ) (bytes a b : List ℕ) → SameOutside at (length bytes) a b → overlay at bytes b ≡ overlay at bytes a
+pub overlay_same : (at : ℕ) (bytes a b : List ℕ) → SameOutside at (length bytes) a b → overlay at bytes b ≡ overlay at bytes a
 overlay_same at bytes a b same =
     let front = part_stays at (length bytes) a b 0 at same (inl (omega arith)) in
     let back = part_stays at (length bytes) a b (at + length bytes) (length a) same (inr (omega arith)) in
