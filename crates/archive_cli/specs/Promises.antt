@@ -96,7 +96,8 @@ module _ {D : Type 0} (g : Disk D) where
   -- ready and held an archive, so that nothing was in doubt, as a session's engine is at a request; and
   -- of a root whose sequence is below 2^64 - 1.
   abbrev pub PurgeLeavesNothing : Type 0
-  PurgeLeavesNothing = (words : Departure → Said SessionAtWork LastKnown) (number moment n : ℕ) (id : ObjectId)
+  PurgeLeavesNothing = (words : Departure → Said SessionAtWork LastKnown) (number moment n : ℕ)
+      (id : ObjectId)
       (a : Archive) (old : Owning D) (i : ConnectionState) (held : Option SessionAtWork)
       (new : Owning D) (t : LastKnown) (j : ConnectionState)
       → HoldsArchive g.content old a → is_ready old ≡ true → old.view.root.sequence + 1 < 2 ^ 64

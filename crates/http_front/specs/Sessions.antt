@@ -228,7 +228,8 @@ PageSaysUnread refusal.DiskFault moment sends out lost out' lost' sent =
 PageSaysUnread refusal.NoMemory moment sends out lost out' lost' sent =
     Says (word Unavailable moment sends true) out lost out' lost' sent
 PageSaysUnread (refusal.Damaged named found) moment sends out lost out' lost' sent =
-    Says (word_of ServerError (damaged_line (id_bytes named) (id_bytes found)) moment sends true) out lost out' lost' sent
+    Says (word_of ServerError (damaged_line (id_bytes named) (id_bytes found)) moment sends true)
+    out lost out' lost' sent
     ⊎ Says (word Unavailable moment sends true) out lost out' lost' sent
 
 -- A reply stopped for a refusal: its words were begun, or it was said why.
