@@ -231,10 +231,3 @@ PageSaysUnread (refusal.Damaged named found) moment sends out lost out' lost' se
     Says (word_of ServerError (damaged_line (id_bytes named) (id_bytes found)) moment sends true)
     out lost out' lost' sent
     ⊎ Says (word Unavailable moment sends true) out lost out' lost' sent
-
--- A reply stopped for a refusal: its words were begun, or it was said why.
-abbrev pub SaysStopped : Bool → TextRefusal → ℕ → Option (List ℕ) → ℕ → Option (List ℕ) → ℕ
-    → Type 0
-SaysStopped true refused moment out lost out' lost' = (out' ≡ out) × (lost' ≡ lost)
-SaysStopped false refused moment out lost out' lost' = (sent : Result Unit SinkFault)
-    × PageSaysUnread refused moment true out lost out' lost' sent

@@ -1,6 +1,6 @@
 //! Mailbox files, as streamed replies whose length is said first.
 //! Reads the disk.
-ghost use Rattle.std.specs.Prelude.{◌≡◌, ◌++◌, ◌<◌, ◌^◌, ℕ, [], length, true, false, is_some, IfOk, OnErr, Result};
+ghost use Rattle.std.specs.Prelude.{◌≡◌, ◌++◌, ◌<◌, ◌^◌, ℕ, length, true, false, is_some, IfOk, OnErr, Result};
 ghost use Rattle.line_door.specs.Acts.{at_sink};
 ghost use Rattle.arch_base.specs.Moments.{IsMoment};
 ghost use Rattle.arch_model.specs.OverShelf.{ShelfKept};
@@ -15,7 +15,7 @@ ghost use Rattle.http_front.specs.Mailboxes.{piece_by, piece_at, mailbox_at, who
 ghost use Rattle.http_front.specs.Counting.{body_texts};
 ghost use Rattle.http_front.specs.Feeding.{AppendsOrRefuses};
 ghost use Rattle.http_front.specs.Replies.{word};
-ghost use Rattle.http_front.specs.Sessions.{SaysThen, ServesMailbox, StreamsOn, SaysStopped};
+ghost use Rattle.http_front.specs.Sessions.{SaysThen, ServesMailbox, StreamsOn};
 ghost use Rattle.http_front.specs.Streaming.{StreamsPart};
 
 use crate::answer::next_after;
@@ -26,19 +26,8 @@ use arch_model::{Next, Shelf, TextRefusal, is_live};
 use atom_mbox::mbox_piece;
 use edge_io::{Sink, SinkFault, say};
 use http_heads::{Body, Status, push_reply_head};
+use shelf_doors::StreamStop;
 use std::alloc::Global;
-
-/// What became of the piece of a number.
-#[derive(Drop)]
-pub(crate) enum Part {
-    /// It was put after the words that are still to be said, or these were said with it. This tells
-    /// whether any words of the reply were said so far.
-    Put(bool),
-    /// The words that were to be said were lost.
-    Lost,
-    /// Its text wasn't read.
-    Unread(TextRefusal),
-}
 
 /// How a reply is said.
 #[derive(Clone, Copy, Drop)]
@@ -213,13 +202,12 @@ fn say_every_piece<S: Shelf, O: Sink>(
     let mut begun = false;
     let mut low: u64 = 0;
     while let Some(n) = live_from(low, shelf) {
-        match say_part(alloc, n, begun, &mut unsaid, shelf, out) {
-            Part::Put(said) => {
+        match say_part(alloc, n, begun, manner.moment, &mut unsaid, shelf, out) {
+            Ok(said) => {
                 begun = said;
                 low = u64::from(n) + 1;
             }
-            Part::Lost => return Next::Close,
-            Part::Unread(refusal) => return stop(alloc, begun, refusal, manner.moment, out),
+            Err(_) => return Next::Close,
         }
     }
     say_rest(unsaid, manner.closes, out)
@@ -246,26 +234,31 @@ fn say_pieces<S: Shelf, O: Sink>(
 {
     let mut begun = false;
     for n in numbers {
-        match say_part(alloc, *n, begun, &mut unsaid, shelf, out) {
-            Part::Put(said) => begun = said,
-            Part::Lost => return Next::Close,
-            Part::Unread(refusal) => return stop(alloc, begun, refusal, manner.moment, out),
+        match say_part(alloc, *n, begun, manner.moment, &mut unsaid, shelf, out) {
+            Ok(said) => begun = said,
+            Err(_) => return Next::Close,
         }
     }
     say_rest(unsaid, manner.closes, out)
 }
 
 /// Puts the piece of a number after what is to be said, and says that if it is long.
+///
+/// Returns whether any words of the reply were said so far. A text that isn't read stops the reply; if
+/// nothing was said of it, that is said instead.
 fn say_part<S: Shelf, O: Sink>(
     alloc: Global,
     n: u32,
     begun: bool,
+    moment: u64,
     unsaid: &mut Bytes,
     shelf: &mut S,
     out: &mut O,
-) -> Part
-    requires { S.ready shelf.old ≡ true }
-    ensures part { (a : Archive) → S.holds shelf.old a → StreamsPart (piece_at a.entries n) begun unsaid.old
+) -> Result<bool, StreamStop>
+    requires ready { S.ready shelf.old ≡ true }
+    requires moment { IsMoment moment }
+    ensures part { (a : Archive) → S.holds shelf.old a
+        → StreamsPart moment (unsaid.old ++ piece_at a.entries n) begun
         (at_sink O.Sink out.old (S.faults shelf.old)) result unsaid.new
         (at_sink O.Sink out.new (S.faults shelf.new)) }
     ensures reads { ReadsOnce (S.reads shelf.old) (S.reads shelf.new) }
@@ -273,9 +266,9 @@ fn say_part<S: Shelf, O: Sink>(
     ensures sink { O.alike out.old out.new }
 {
     if is_live(n, shelf) {
-        say_piece(alloc, n, begun, unsaid, shelf, out)
+        say_piece(alloc, n, begun, moment, unsaid, shelf, out)
     } else {
-        Part::Put(begun)
+        Ok(begun)
     }
 }
 
@@ -284,15 +277,17 @@ fn say_piece<S: Shelf, O: Sink>(
     alloc: Global,
     n: u32,
     begun: bool,
+    moment: u64,
     unsaid: &mut Bytes,
     shelf: &mut S,
     out: &mut O,
-) -> Part
+) -> Result<bool, StreamStop>
     requires ready { S.ready shelf.old ≡ true }
+    requires moment { IsMoment moment }
     requires live { (a : Archive) → S.holds shelf.old a
         → is_some (text_of (live a.entries) n) ≡ true }
     ensures part { (a : Archive) → S.holds shelf.old a
-        → StreamsPart (piece_by (shown_text a.entries n)) begun unsaid.old
+        → StreamsPart moment (unsaid.old ++ piece_at a.entries n) begun
         (at_sink O.Sink out.old (S.faults shelf.old)) result unsaid.new
         (at_sink O.Sink out.new (S.faults shelf.new)) }
     ensures reads { ReadsOnce (S.reads shelf.old) (S.reads shelf.new) }
@@ -301,26 +296,32 @@ fn say_piece<S: Shelf, O: Sink>(
 {
     match push_piece(alloc, n, unsaid, shelf) {
         Ok(()) => say_long(begun, unsaid, out),
-        Err(refusal) => Part::Unread(refusal),
+        Err(refusal) => {
+            if begun {
+                return Err(StreamStop::Short);
+            }
+            let sent = say_unread(alloc, refusal, moment, true, out);
+            Err(StreamStop::Unread(sent))
+        }
     }
 }
 
-/// Says what is to be said if it is long.
-fn say_long<O: Sink>(begun: bool, unsaid: &mut Bytes, out: &mut O) -> Part
-    ensures part { (disk : ℕ) → StreamsPart [] begun unsaid.old
+/// Says what is to be said if it is long, and returns whether any words of the reply were said so far.
+fn say_long<O: Sink>(begun: bool, unsaid: &mut Bytes, out: &mut O) -> Result<bool, StreamStop>
+    ensures part { (moment disk : ℕ) → StreamsPart moment unsaid.old begun
         (at_sink O.Sink out.old disk) result unsaid.new
         (at_sink O.Sink out.new disk) }
     ensures sink { O.alike out.old out.new }
 {
     if unsaid.as_slice().len() < PART_LEN {
-        return Part::Put(begun);
+        return Ok(begun);
     }
     match say(unsaid.as_slice(), out) {
         Ok(()) => {
             unsaid.truncate(0);
-            Part::Put(true)
+            Ok(true)
         }
-        Err(SinkFault) => Part::Lost,
+        Err(SinkFault) => Err(StreamStop::Lost),
     }
 }
 
@@ -361,19 +362,4 @@ fn say_rest<O: Sink>(unsaid: Bytes, closes: bool, out: &mut O) -> Next
 {
     let said = say(unsaid.as_slice(), out);
     next_after(said.is_ok(), closes)
-}
-
-/// Ends a reply for which a text was not read. If nothing was said of it, says why instead.
-fn stop<O: Sink>(alloc: Global, begun: bool, refusal: TextRefusal, moment: u64, out: &mut O) -> Next
-    requires { IsMoment moment }
-    ensures said { SaysStopped begun refusal moment (O.taken out.old) (O.faults out.old)
-        (O.taken out.new) (O.faults out.new) }
-    ensures next { result ≡ Next.Close }
-    ensures sink { O.alike out.old out.new }
-{
-    if begun {
-        return Next::Close;
-    }
-    let _ = say_unread(alloc, refusal, moment, true, out);
-    Next::Close
 }

@@ -11,8 +11,8 @@ use Rattle.edge_io.specs.Phrases.{Says}
 use Rattle.edge_io.specs.declared.sink.SinkFault.{SinkFault}
 use Rattle.line_door.specs.Acts.{ConnectionState}
 use Rattle.wire_replies.specs.Waits.{Waits}
-use Rattle.shelf_doors.specs.Refusals.{unread_line}
-use Rattle.shelf_doors.specs.Streams.{SaysWhy, StreamsNext}
+use Rattle.shelf_doors.specs.Refusals.{unread_line, SaysWhy}
+use Rattle.shelf_doors.specs.Streams.{StreamsNext}
 use Rattle.shelf_doors.specs.declared.streamed.StreamStop.TheVariants as stop
 use Rattle.shelf_doors.proofs.Reading.{says-unread}
 use Rattle.imap_messages.specs.Picking.{told_message}
@@ -56,8 +56,8 @@ undamaged refusal.NoMemory is = tt
 
 -- What was said of it.
 pub says-why : (needed : Bool) (code : List ℕ) (i j k : ConnectionState) (why : TextRefusal) (sent : Result Unit SinkFault) → IsWhy needed why → ReadingWhy i.disk j.disk why → i.disk ≤ j.disk → i.out ≡ j.out → i.lost ≡ j.lost → k.disk ≡ j.disk
-    → Says (unread_line code why) j.out j.lost k.out k.lost sent → SaysWhy needed code i sent k
-says-why true code i j k why sent is cause later out lost same said = says-unread code i j k why sent (undamaged why is) cause later out lost same said
+    → Says (unread_line code why) j.out j.lost k.out k.lost sent → SaysWhy needed (unread_line code) i sent k
+says-why true code i j k why sent is cause later out lost same said = says-unread (unread_line code) i j k why sent (undamaged why is) cause later out lost same said
 says-why false code i j k refusal.DiskFault sent is cause later out lost same said = absurd (cc is)
 says-why false code i j k (refusal.Damaged named found) sent is cause later out lost same said = absurd is
 says-why false code i j k refusal.NoMemory sent is kept later out lost same said = (same ∙ kept, rw (out, lost) said)
@@ -84,15 +84,15 @@ module _ (a : Archive) (f : FetchAsked) (s n : ℕ) (lives : is_some (text_of (l
   module _ (begun : Bool) (old : List ℕ) (i : ConnectionState) where
     -- The line was appended, or a write failed.
     pub said : (made : List ℕ) → MakesItems f (text_of (live a.entries) n) (row_in (live a.entries) n) (Ok made) → (j k : ConnectionState) (new : List ℕ) (sent : Result Unit SinkFault) → i.out ≡ j.out → i.lost ≡ j.lost → j.disk ≡ i.disk → k.disk ≡ j.disk
-        → Waits (line_with s made) old j.out j.lost new k.out k.lost sent → StreamsNext (no_code f.tag) (reads_texts f) (message_line a (shown_items f.numbering f.items) (told_message s n)) begun old i (if is_ok sent then Ok tt else Err stop.Lost) new k
+        → Waits (line_with s made) old j.out j.lost new k.out k.lost sent → StreamsNext (unread_line (no_code f.tag)) (reads_texts f) (message_line a (shown_items f.numbering f.items) (told_message s n)) begun old i (if is_ok sent then Ok tt else Err stop.Lost) new k
     said made makes j k new (Ok done) out lost same kept waits = (kept ∙ same, subst (λ (w : List ℕ). Waits w old i.out i.lost new k.out k.lost (Ok tt)) (sym (line-is made makes)) (rw (out, lost) waits))
     said made makes j k new (Err fault) out lost same kept waits = (fault, (kept ∙ same, subst (λ (w : List ℕ). Waits w old i.out i.lost new k.out k.lost (Err fault)) (sym (line-is made makes)) (rw (out, lost) waits)))
 
     -- It wasn't made.
     pub unread : begun ≡ false → (j k : ConnectionState) (why : TextRefusal) (sent : Result Unit SinkFault) → IsWhy (reads_texts f) why → ReadingWhy i.disk j.disk why → i.disk ≤ j.disk → i.out ≡ j.out → i.lost ≡ j.lost → k.disk ≡ j.disk → Says (unread_line (no_code f.tag) why) j.out j.lost k.out k.lost sent
-        → StreamsNext (no_code f.tag) (reads_texts f) (message_line a (shown_items f.numbering f.items) (told_message s n)) begun old i (Err (stop.Unread sent)) old k
+        → StreamsNext (unread_line (no_code f.tag)) (reads_texts f) (message_line a (shown_items f.numbering f.items) (told_message s n)) begun old i (Err (stop.Unread sent)) old k
     unread not_begun j k why sent is cause later out lost same said' = (not_begun, refl, says-why (reads_texts f) (no_code f.tag) i j k why sent is cause later out lost same said')
 
     pub short : begun ≡ true → (j : ConnectionState) (why : TextRefusal) → IsWhy (reads_texts f) why → ReadingWhy i.disk j.disk why → i.disk ≤ j.disk → i.out ≡ j.out → i.lost ≡ j.lost
-        → StreamsNext (no_code f.tag) (reads_texts f) (message_line a (shown_items f.numbering f.items) (told_message s n)) begun old i (Err stop.Short) old j
+        → StreamsNext (unread_line (no_code f.tag)) (reads_texts f) (message_line a (shown_items f.numbering f.items) (told_message s n)) begun old i (Err stop.Short) old j
     short begun j why is cause later out lost = (begun, (refl, sym out, sym lost, later, why-cause (reads_texts f) i.disk j.disk why is cause))

@@ -13,7 +13,7 @@ use Rattle.line_door.specs.Making.{says, streams}
 use Rattle.imap_syntax.specs.declared.items.Item.{Item}
 use Rattle.imap_syntax.specs.declared.items.Item.TheVariants as item
 use Rattle.imap_items.specs.Items.{item_of}
-use Rattle.shelf_doors.specs.Refusals.{disk_line}
+use Rattle.shelf_doors.specs.Refusals.{disk_line, unread_line}
 use Rattle.shelf_doors.specs.Streams.{StreamWays, Given}
 use Rattle.shelf_doors.proofs.Streaming.{Under, under-start, under-more}
 use Rattle.imap_messages.specs.declared.numbering.Numbering.{Numbering}
@@ -181,7 +181,7 @@ items-made f found shown text row made given there is t r has_text has_row = by 
     by false reads = rw (← same) (is ∙ items-alike f.numbering text t row f.items reads)
 
 -- A reply that is streamed, and what is said in its place.
-pub fetch-ways : (a : Archive) (k : Known) (f : FetchAsked) → is_outside f.numbering f.set k.uids ≡ false → StreamWays (fetch_said a k f) a k (fetch_words a k.uids f) (no_code f.tag) (nat_lt 0 (texts_of a f (picked f.numbering f.set k.uids)))
+pub fetch-ways : (a : Archive) (k : Known) (f : FetchAsked) → is_outside f.numbering f.set k.uids ≡ false → StreamWays (fetch_said a k f) a k true true (fetch_words a k.uids f) (unread_line (no_code f.tag)) (nat_lt 0 (texts_of a f (picked f.numbering f.set k.uids)))
 fetch-ways a k f inside = record {
   by_rules = plain;
   no_memory = refl;

@@ -257,7 +257,7 @@ module _ (a : Archive) (k : Known) (s : SearchAsked) (i j : ConnectionState) (se
   pub search-why : trees_are_told (length k.uids) (trees s.keys) ≡ true → is_known_charset s.charset ≡ true → (mid : ConnectionState) (why : TextRefusal) → IsWhy (nat_lt 0 (looks_of a k.uids s (messages_from 1 k.uids))) why → ReadingWhy i.disk mid.disk why → i.disk ≤ mid.disk
       → i.out ≡ mid.out → i.lost ≡ mid.lost → j.disk ≡ mid.disk → Says (unread_line (no_code s.tag) why) mid.out mid.lost j.out j.lost sent → Acts (search_said a k s) i (held_if (is_ok sent) k) a j
   search-why t n mid why is cause later out lost same said =
-      acts-why (search_said a k s) a k (no_code s.tag) (nat_lt 0 (looks_of a k.uids s (messages_from 1 k.uids))) i j sent refl
+      acts-why (search_said a k s) a k true (unread_line (no_code s.tag)) (nat_lt 0 (looks_of a k.uids s (messages_from 1 k.uids))) i j sent refl
       (λ e. ap (λ (b : Bool). if b then says a k (disk_line (no_code s.tag)) else search_plain a k s) (ap (nat_lt 0) (texts-by a k s t n) ∙ e))
       (says-why (nat_lt 0 (looks_of a k.uids s (messages_from 1 k.uids))) (no_code s.tag) i mid j why sent is cause later out lost same said)
 

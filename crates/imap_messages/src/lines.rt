@@ -7,6 +7,7 @@ ghost use Rattle.arch_model.specs.OverShelf.{ShelfKept};
 ghost use Rattle.arch_model.specs.Shelves.{ReadCause, ReadsUpTo};
 ghost use Rattle.line_door.specs.Acts.{at_sink};
 ghost use Rattle.wire_replies.specs.Waits.{Waits};
+ghost use Rattle.shelf_doors.specs.Refusals.{unread_line};
 ghost use Rattle.shelf_doors.specs.Streams.{StreamsNext};
 ghost use Rattle.imap_messages.specs.Picking.{told_message};
 ghost use Rattle.imap_messages.specs.Tagged.{no_code};
@@ -38,7 +39,7 @@ pub(crate) fn push_message<S: Shelf, O: Sink>(
     requires live { (a : Archive) → S.holds shelf.old a
         → is_some (text_of (live a.entries) uid) ≡ true }
     ensures line { (a : Archive) → S.holds shelf.old a
-        → StreamsNext (no_code command.now.tag.now) (reads_texts (asked_fetch command.now))
+        → StreamsNext (unread_line (no_code command.now.tag.now)) (reads_texts (asked_fetch command.now))
         (message_line a (shown_items command.now.numbering command.now.items.now)
         (told_message sequence uid)) begun reply.old (at_sink O.Sink out.old (S.faults shelf.old))
         result reply.new (at_sink O.Sink out.new (S.faults shelf.new)) }

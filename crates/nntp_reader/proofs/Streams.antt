@@ -7,6 +7,7 @@ use Rattle.line_door.specs.Readers.{as_said, line_reader}
 use Rattle.nntp_words.specs.declared.numbers.Range.{Range}
 use Rattle.mail_forms.specs.NamedValues.{flat_first}
 use Rattle.shelf_doors.specs.Numbers.{live_in, first_of}
+use Rattle.shelf_doors.specs.Refusals.{unread_line}
 use Rattle.shelf_doors.specs.Streams.{StreamWays}
 use Rattle.wire_replies.specs.Blocks.{crlf_line, block_end}
 use Rattle.nntp_reader.specs.Choices.{range_start}
@@ -56,5 +57,5 @@ module _ (moment : ℕ) (a : Archive) (g : Group) (name : List ℕ) (range : Ran
   after-way Newer = refl
 
   -- HDR of a field over a range of which one is live is a streamed reply.
-  pub range-streamed : StreamWays (λ way. as_said rest (in_way moment a g (Headers (Field name) (Within range)) way)) a (line_reader g rest) (fields_block name (live a.entries) range.first range.last) refused_code true
+  pub range-streamed : StreamWays (λ way. as_said rest (in_way moment a g (Headers (Field name) (Within range)) way)) a (line_reader g rest) true true (fields_block name (live a.entries) range.first range.last) (unread_line refused_code) true
   range-streamed = record { by_rules = rw is refl; no_memory = rw is refl; no_disk = λ reads. rw is refl; after = after-way }

@@ -19,6 +19,7 @@ ghost use Rattle.nntp_reader.specs.Notices.{refused_code};
 ghost use Rattle.nntp_reader.specs.Replies.{in_way, field_reads};
 ghost use Rattle.nntp_reader.specs.Sessions.{articles_of, start_if as start_if_of, ReadsValue, SaysOrNot};
 ghost use Rattle.shelf_doors.specs.Numbers.{live_in};
+ghost use Rattle.shelf_doors.specs.Refusals.{unread_line};
 ghost use Rattle.shelf_doors.specs.Streams.{StreamsNext};
 
 use crate::choice::{Chosen, choose, range_start};
@@ -172,7 +173,7 @@ fn push_field<S: Shelf, O: Sink>(
     requires live { (a : Archive) → S.holds shelf.old a
         → is_some (text_of (live a.entries) number) ≡ true }
     ensures value { (a : Archive) → S.holds shelf.old a
-        → StreamsNext refused_code true (start_if_of (not begun)
+        → StreamsNext (unread_line refused_code) true (start_if_of (not begun)
         ++ field_line name.now number (text_of (live a.entries) number)) begun reply.old
         (at_sink O.Sink out.old (S.faults shelf.old)) result reply.new
         (at_sink O.Sink out.new (S.faults shelf.new)) }

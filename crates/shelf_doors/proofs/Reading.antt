@@ -1,5 +1,5 @@
 -- The texts that are read, counted; and why a text was not read.
-use Rattle.std.proofs.Common.{◌≡◌, ◌≤◌, ℕ, Bool, true, false, List, [], ◌++◌, drop, Result, inl, inr, sym, subst, ◌∙◌, arith, if◌then◌else◌}
+use Rattle.std.proofs.Common.{◌≡◌, ◌≤◌, ◌⊎◌, ℕ, Bool, true, false, List, [], ◌++◌, drop, Result, inl, inr, sym, subst, ◌∙◌, arith, if◌then◌else◌}
 use Rattle.arch_base.specs.Counts.{Rose}
 use Rattle.arch_model.specs.Shelves.{ReadsOnce, ReadsUpTo, ReadsAhead, IsUndamaged, ReadingWhy}
 use Rattle.arch_model.specs.declared.text_refusal.TextRefusal.{TextRefusal}
@@ -14,7 +14,7 @@ use Rattle.line_door.specs.Skipping.{Taken, Skipped, skipping_front}
 use Rattle.line_door.specs.declared.turn.LineAct.TheVariants.{Went, Closed}
 use Rattle.line_door.proofs.Costing.{cost-taken, cost-skipped}
 use Rattle.shelf_doors.specs.Reads.{LineActReads}
-use Rattle.shelf_doors.specs.Refusals.{memory_line, disk_line, unread_line, SaysUnread}
+use Rattle.shelf_doors.specs.Refusals.{SaysWhy}
 
 -- Reads that leave room for others.
 pub ahead-none : (most n : ℕ) → ReadsAhead most most n n
@@ -60,12 +60,19 @@ module _ {S : Type 0} (limit : ℕ) (cost : List ℕ → ℕ) where
   skipped-reads s held piece new n false reads is none = record { later = omega arith; bound = omega arith }
 
 -- Why a text was not read, while an archive is held.
-pub says-unread : (code : List ℕ) (i j k : ConnectionState) (why : TextRefusal) (sent : Result Unit SinkFault) → IsUndamaged why → ReadingWhy i.disk j.disk why → i.disk ≤ j.disk → i.out ≡ j.out → i.lost ≡ j.lost → k.disk ≡ j.disk → Says (unread_line code why) j.out j.lost k.out k.lost sent → SaysUnread code i sent k
-says-unread code i j k refusal.DiskFault sent well rose later out lost same said =
-    let on : Says (disk_line code) i.out i.lost k.out k.lost sent = rw (out, lost) said in
+pub says-unread : (line : TextRefusal → List ℕ) (i j k : ConnectionState) (why : TextRefusal) (sent : Result Unit SinkFault) → IsUndamaged why → ReadingWhy i.disk j.disk why → i.disk ≤ j.disk → i.out ≡ j.out → i.lost ≡ j.lost → k.disk ≡ j.disk → Says (line why) j.out j.lost k.out k.lost sent
+    → SaysWhy true line i sent k
+says-unread line i j k refusal.DiskFault sent well rose later out lost same said =
+    let on : Says (line refusal.DiskFault) i.out i.lost k.out k.lost sent = rw (out, lost) said in
     let now : Rose i.disk k.disk = subst (λ (n : ℕ). Rose i.disk n) (sym same) rose in
     inl (now, omega (arith, later, same), on)
-says-unread code i j k (refusal.Damaged named found) sent well rose later out lost same said = absurd well
-says-unread code i j k refusal.NoMemory sent well kept later out lost same said =
-    let on : Says (memory_line code) i.out i.lost k.out k.lost sent = rw (out, lost) said in
+says-unread line i j k (refusal.Damaged named found) sent well rose later out lost same said = absurd well
+says-unread line i j k refusal.NoMemory sent well kept later out lost same said =
+    let on : Says (line refusal.NoMemory) i.out i.lost k.out k.lost sent = rw (out, lost) said in
     inr (same ∙ kept, on)
+
+-- Why a reply stops where a text was not read.
+pub stops-why : (before now : ℕ) (why : TextRefusal) → IsUndamaged why → ReadingWhy before now why → Rose before now ⊎ (now ≡ before)
+stops-why before now refusal.DiskFault well rose = inl rose
+stops-why before now (refusal.Damaged named found) well cause = absurd well
+stops-why before now refusal.NoMemory well kept = inr kept

@@ -1,20 +1,21 @@
 -- A streamed reply under way, of any door: its words wait, and it stops when a text isn't read.
-use Rattle.std.proofs.Common.{◌≡◌, ◌≤◌, ◌<◌, ◌⊎◌, ℕ, zero, suc, min, Bool, true, false, List, [], ◌++◌, length, take, Option, None, Result, Ok, Err, is_ok, inl, inr, refl, sym, ap, subst, ◌∙◌, append_assoc, length-append, arith}
+use Rattle.std.proofs.Common.{◌≡◌, ◌≤◌, ◌<◌, ◌⊎◌, ◌&&◌, if◌then◌else◌, ℕ, zero, suc, min, Bool, true, false, List, [], ◌++◌, length, take, Option, None, Result, Ok, Err, is_ok, inl, inr, refl, sym, ap, subst, ◌∙◌, append_assoc, length-append, arith}
 use Rattle.arch_base.specs.Counts.{Rose}
 use Rattle.arch_model.specs.Next.{continues}
 use Rattle.arch_model.specs.declared.next.Next.{Next}
+use Rattle.arch_model.specs.declared.text_refusal.TextRefusal.{TextRefusal}
+use Rattle.arch_model.specs.declared.text_refusal.TextRefusal.TheVariants as refusal
 use Rattle.edge_io.specs.Taken.{plus}
 use Rattle.edge_io.specs.Phrases.{Says}
 use Rattle.edge_io.specs.declared.sink.SinkFault.{SinkFault}
 use Rattle.edge_io.proofs.Wording.{take-first}
 use Rattle.line_door.specs.Acts.{ConnectionState, Said, Departure, Plain, Memory, Disk, DepartureCause, SaidShort, Acts, held_if}
-use Rattle.line_door.specs.Making.{says, streams}
-use Rattle.line_door.proofs.Acting.{acts-by_held, acts-by_says}
+use Rattle.line_door.proofs.Acting.{acts-by_says}
 use Rattle.line_door.proofs.Streaming.{acts-short}
-use Rattle.shelf_doors.specs.Refusals.{memory_line, disk_line}
 use Rattle.wire_replies.proofs.Wording.{SoFar, sofar-none, sofar-lost, Waits-then, Waits-flushed}
 use Rattle.shelf_doors.proofs.Replying.{Waits-ended}
-use Rattle.shelf_doors.specs.Streams.{SaysWhy, Given, Missed, StreamsNext, EndsAt, StreamWays}
+use Rattle.shelf_doors.specs.Refusals.{SaysWhy}
+use Rattle.shelf_doors.specs.Streams.{says_if, Given, Missed, StreamsNext, EndsAt, StreamWays}
 use Rattle.shelf_doors.specs.declared.streamed.StreamStop.{StreamStop}
 use Rattle.shelf_doors.specs.declared.streamed.StreamStop.TheVariants as stop
 
@@ -87,47 +88,59 @@ cause-on : (first before now last : ℕ) → before ≡ first → last ≡ now �
 cause-on first before now last kept same (inl rose) = let more : Rose first last = omega (arith, kept, same, rose) in inl more
 cause-on first before now last kept same (inr stayed) = inr (same ∙ stayed ∙ kept)
 
--- An act that says why something wasn't made.
-pub acts-why : {H A : Type 0} (words : Departure → Said H A) (a : A) (h : H) (code : List ℕ) (needs : Bool) (i k : ConnectionState) (sent : Result Unit SinkFault) → words Memory ≡ says a h (memory_line code) → (needs ≡ true → words Disk ≡ says a h (disk_line code)) → SaysWhy needs code i sent k
-    → Acts words i (held_if (is_ok sent) h) a k
-acts-why words a h code true i k sent memory disk (inl fault) = acts-by_held words Disk (says a h (disk_line code)) i k h a sent (disk refl) refl fault.0 fault.1 fault.2 refl
-acts-why words a h code true i k sent memory disk (inr out) = acts-by_held words Memory (says a h (memory_line code)) i k h a sent memory refl out.0 (omega (arith, out.0)) out.1 refl
-acts-why words a h code false i k sent memory disk out = acts-by_held words Memory (says a h (memory_line code)) i k h a sent memory refl out.0 (omega (arith, out.0)) out.1 refl
+held-if : {H : Type 0} (goes : Bool) (h : H) (sent : Result Unit SinkFault) → held_if (goes && is_ok sent) h ≡ (if is_ok sent then held_if goes h else None)
+held-if true h (Ok done) = refl
+held-if true h (Err fault) = refl
+held-if false h (Ok done) = refl
+held-if false h (Err fault) = refl
 
-module _ {H A : Type 0} (words : Departure → Said H A) (a : A) (h : H) (reply code : List ℕ) (reads : Bool) (ways : StreamWays words a h reply code reads) (left : List ℕ) (i : ConnectionState) (waiting : List ℕ) (j : ConnectionState) where
+-- Words were said, and the session goes on if it goes on after them and they were taken.
+acts-if : {H A : Type 0} (words : Departure → Said H A) (way : Departure) (a : A) (goes : Bool) (h : H) (streamed : Bool) (text : List ℕ) (i k : ConnectionState) (sent : Result Unit SinkFault) → words way ≡ says_if a goes h streamed text → DepartureCause way i.disk k.disk → i.disk ≤ k.disk
+    → Says text i.out i.lost k.out k.lost sent → Acts words i (held_if (goes && is_ok sent) h) a k
+acts-if words way a goes h streamed text i k sent is cause later said = acts-by_says words way (says_if a goes h streamed text) i k (held_if (goes && is_ok sent) h) a sent is cause later said (held-if goes h sent) refl
+
+-- An act that says why something wasn't made.
+pub acts-why : {H A : Type 0} (words : Departure → Said H A) (a : A) (h : H) (stays : Bool) (line : TextRefusal → List ℕ) (needs : Bool) (i k : ConnectionState) (sent : Result Unit SinkFault) → words Memory ≡ says_if a stays h false (line refusal.NoMemory)
+    → (needs ≡ true → words Disk ≡ says_if a stays h false (line refusal.DiskFault)) → SaysWhy needs line i sent k → Acts words i (held_if (stays && is_ok sent) h) a k
+acts-why words a h stays line true i k sent memory disk (inl fault) = acts-if words Disk a stays h false (line refusal.DiskFault) i k sent (disk refl) fault.0 fault.1 fault.2
+acts-why words a h stays line true i k sent memory disk (inr out) = acts-if words Memory a stays h false (line refusal.NoMemory) i k sent memory out.0 (omega (arith, out.0)) out.1
+acts-why words a h stays line false i k sent memory disk out = acts-if words Memory a stays h false (line refusal.NoMemory) i k sent memory out.0 (omega (arith, out.0)) out.1
+
+module _ {H A : Type 0} {goes stays : Bool} (words : Departure → Said H A) (a : A) (h : H) (reply : List ℕ) (line : TextRefusal → List ℕ) (reads : Bool) (ways : StreamWays words a h goes stays reply line reads) (left : List ℕ) (i : ConnectionState) (waiting : List ℕ) (j : ConnectionState) where
   -- A write failed at the next words.
-  under-lost : (begun : Bool) → Under reply left begun i waiting j → (piece rest new : List ℕ) (k : ConnectionState) (fault : SinkFault) → left ≡ piece ++ rest → Given piece waiting j (Err fault) new k → Acts words i None a k
+  pub under-lost : (begun : Bool) → Under reply left begun i waiting j → (piece rest new : List ℕ) (k : ConnectionState) (fault : SinkFault) → left ≡ piece ++ rest → Given piece waiting j (Err fault) new k → Acts words i None a k
   under-lost begun before piece rest new k fault is given =
-      acts-by_says words Plain (streams a h reply) i k None a (Err fault) ways.by_rules (given.0 ∙ before.kept) (let kept = before.kept in omega (arith, given.0, kept))
+      acts-by_says words Plain (says_if a goes h true reply) i k None a (Err fault) ways.by_rules (given.0 ∙ before.kept) (let kept = before.kept in omega (arith, given.0, kept))
       (sofar-lost reply [] i.out i.lost left waiting j.out j.lost before.so_far piece rest k.out k.lost fault is given.1) refl refl
 
   -- Before the first words, it was said why they weren't made.
-  under-unread : (begun : Bool) → Under reply left begun i waiting j → (needs : Bool) (k : ConnectionState) (sent : Result Unit SinkFault) → begun ≡ false → (needs ≡ true → reads ≡ true) → SaysWhy needs code j sent k → Acts words i (held_if (is_ok sent) h) a k
+  pub under-unread : (begun : Bool) → Under reply left begun i waiting j → (needs : Bool) (k : ConnectionState) (sent : Result Unit SinkFault) → begun ≡ false → (needs ≡ true → reads ≡ true) → SaysWhy needs line j sent k → Acts words i (held_if (stays && is_ok sent) h) a k
   under-unread begun before needs k sent not_begun needed why =
-      acts-why words a h code needs i k sent ways.no_memory (λ e. ways.no_disk (needed e)) (subst (λ (o : ConnectionState). SaysWhy needs code o sent k) still why)
+      acts-why words a h stays line needs i k sent ways.no_memory (λ e. ways.no_disk (needed e)) (subst (λ (o : ConnectionState). SaysWhy needs line o sent k) still why)
     where
       still : j ≡ i
       still = let none = before.none not_begun in λ e. record { out = none.0 e; disk = before.kept e; lost = none.1 e }
 
   -- After some words a text wasn't read, and what waits is written.
-  under-short : (begun : Bool) → Under reply left begun i waiting j → (new : List ℕ) (k m : ConnectionState) (sent : Result Unit SinkFault) → begun ≡ true → 0 < length left → Missed waiting j new k → m.disk ≡ k.disk → Says new k.out k.lost m.out m.lost sent → Acts words i None a m
+  pub under-short : (begun : Bool) → Under reply left begun i waiting j → (new : List ℕ) (k m : ConnectionState) (sent : Result Unit SinkFault) → begun ≡ true → 0 < length left → Missed waiting j new k → m.disk ≡ k.disk → Says new k.out k.lost m.out m.lost sent → Acts words i None a m
   under-short begun before new k m sent started more missed same said =
       let on : Says waiting j.out j.lost m.out m.lost sent = subst (λ (x : List ℕ). Says x j.out j.lost m.out m.lost sent) missed.0
       (subst (λ (o : Option (List ℕ)). Says new o j.lost m.out m.lost sent) missed.1
       (subst (λ (l : ℕ). Says new k.out l m.out m.lost sent) missed.2 said)) in
-      acts-stopped words (streams a h reply) before.so_far.front left i m a sent ways.after ways.by_rules refl before.so_far.joined (before.some started) more
+      acts-stopped words (says_if a goes h true reply) before.so_far.front left i m a sent ways.after ways.by_rules refl before.so_far.joined (before.some started) more
       (cause-on i.disk j.disk k.disk m.disk before.kept same missed.4) (let later = missed.3 in omega (arith, before.kept, same))
       (Waits-flushed before.so_far.front [] waiting i.out j.out m.out i.lost j.lost m.lost tt sent before.so_far.waits on)
 
   -- The reply ends where it stops at the next words.
-  pub under-stopped : (begun : Bool) → Under reply left begun i waiting j → (needs : Bool) (piece rest new : List ℕ) (stopped : StreamStop) (k m : ConnectionState) (next : Next) → left ≡ piece ++ rest → 0 < length left → (needs ≡ true → reads ≡ true)
-      → StreamsNext code needs piece begun waiting j (Err stopped) new k → EndsAt stopped new k next m → Acts words i (held_if (continues next) h) a m
-  under-stopped begun before needs piece rest new (stop.Unread sent) k m next is some needed why ends = rw (ends.0, ends.1) (under-unread begun before needs k sent why.0 needed why.2)
-  under-stopped begun before needs piece rest new stop.Short k m next is some needed short ends = rw ends.0 (under-short begun before new k m ends.2.0 short.0 some short.1 ends.1 ends.2.1)
-  under-stopped begun before needs piece rest new stop.Lost k m next is some needed lost ends = rw (ends.0, ends.1) (under-lost begun before piece rest new k lost.0 is lost.1)
+  pub under-stopped : stays ≡ true → (begun : Bool) → Under reply left begun i waiting j → (needs : Bool) (piece rest new : List ℕ) (stopped : StreamStop) (k m : ConnectionState) (next : Next) → left ≡ piece ++ rest → 0 < length left → (needs ≡ true → reads ≡ true)
+      → StreamsNext line needs piece begun waiting j (Err stopped) new k → EndsAt stopped new k next m → Acts words i (held_if (continues next) h) a m
+  under-stopped on begun before needs piece rest new (stop.Unread sent) k m next is some needed why ends =
+      rw (ends.0, ends.1) (subst (λ (b : Bool). Acts words i (held_if (b && is_ok sent) h) a k) on (under-unread begun before needs k sent why.0 needed why.2))
+  under-stopped on begun before needs piece rest new stop.Short k m next is some needed short ends = rw ends.0 (under-short begun before new k m ends.2.0 short.0 some short.1 ends.1 ends.2.1)
+  under-stopped on begun before needs piece rest new stop.Lost k m next is some needed lost ends = rw (ends.0, ends.1) (under-lost begun before piece rest new k lost.0 is lost.1)
 
   -- All words were appended, and the last were written.
-  pub under-all : (begun : Bool) → Under reply left begun i waiting j → (k : ConnectionState) (sent : Result Unit SinkFault) → k.disk ≡ j.disk → Says (waiting ++ left) j.out j.lost k.out k.lost sent → Acts words i (held_if (is_ok sent) h) a k
+  pub under-all : (begun : Bool) → Under reply left begun i waiting j → (k : ConnectionState) (sent : Result Unit SinkFault) → k.disk ≡ j.disk → Says (waiting ++ left) j.out j.lost k.out k.lost sent → Acts words i (held_if (goes && is_ok sent) h) a k
   under-all begun before k sent same said =
-      acts-by_held words Plain (streams a h reply) i k h a sent ways.by_rules refl (same ∙ before.kept) (let kept = before.kept in omega (arith, same, kept))
-      (rw before.so_far.joined (Waits-ended before.so_far.front left [] waiting i.out j.out k.out i.lost j.lost k.lost tt sent before.so_far.waits said)) refl
+      acts-if words Plain a goes h true reply i k sent ways.by_rules (same ∙ before.kept) (let kept = before.kept in omega (arith, same, kept))
+      (rw before.so_far.joined (Waits-ended before.so_far.front left [] waiting i.out j.out k.out i.lost j.lost k.lost tt sent before.so_far.waits said))

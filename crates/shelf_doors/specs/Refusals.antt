@@ -1,6 +1,6 @@
 -- What the doors of mail protocols say where a text isn't read, or the archive isn't opened: the code
 -- of the door, and why.
-use Rattle.std.specs.Prelude.{◌≡◌, ◌≤◌, ◌⊎◌, ℕ, List, ◌∷◌, ◌++◌, codes, decimal, Result}
+use Rattle.std.specs.Prelude.{◌≡◌, ◌≤◌, ◌⊎◌, ℕ, Bool, true, false, List, ◌∷◌, ◌++◌, codes, decimal, Result}
 use Rattle.hex.specs.Hex.{encode_lower}
 use Rattle.arch_base.specs.Counts.{Rose}
 use Rattle.arch_base.specs.Ids.{id_bytes}
@@ -39,14 +39,20 @@ unopened_line code (opening.Damaged file at) = code ++ (codes "damaged "
 unopened_line code opening.DiskFault = disk_line code
 unopened_line code opening.NoMemory = memory_line code
 
--- It was said that memory ran out. The disk didn't fail.
-abbrev pub SaysMemory : List ℕ → ConnectionState → Result Unit SinkFault → ConnectionState → Type 0
-SaysMemory code i sent j = (j.disk ≡ i.disk) × Says (memory_line code) i.out i.lost j.out j.lost sent
+-- It was said why something wasn't made, by what a door says of a refusal: its text was not read, if it
+-- is told from one, since the disk failed; or memory ran out.
+abbrev pub SaysWhy : Bool → (TextRefusal → List ℕ) → ConnectionState → Result Unit SinkFault
+    → ConnectionState
+    → Type 0
+SaysWhy true line i sent j = (Rose i.disk j.disk × (i.disk ≤ j.disk)
+    × Says (line reading.DiskFault) i.out i.lost j.out j.lost sent)
+    ⊎ ((j.disk ≡ i.disk) × Says (line reading.NoMemory) i.out i.lost j.out j.lost sent)
+SaysWhy false line i sent j =
+    (j.disk ≡ i.disk) × Says (line reading.NoMemory) i.out i.lost j.out j.lost sent
 
--- It was said why a text was not read: the disk failed, or memory ran out.
+-- It was said after a door's code why a text was not read.
 abbrev pub SaysUnread : List ℕ → ConnectionState → Result Unit SinkFault → ConnectionState → Type 0
-SaysUnread code i sent j = (Rose i.disk j.disk × (i.disk ≤ j.disk)
-    × Says (disk_line code) i.out i.lost j.out j.lost sent) ⊎ SaysMemory code i sent j
+SaysUnread code = SaysWhy true (unread_line code)
 
 -- Why a connection is refused: the door's line for a server that is full, or why after its code.
 abbrev pub refusal_words : List ℕ → List ℕ → Refusal → List ℕ

@@ -1,7 +1,7 @@
 //! What the doors of mail protocols share over a shelf: mailboxes, live numbers, and replies.
 //! Pure.
 //!
-//! Here are also where a streamed reply stops, and the refusals.
+//! Here are also where a streamed reply of any door stops, and the refusals.
 #![tactic(auto)]
 
 mod mailbox;

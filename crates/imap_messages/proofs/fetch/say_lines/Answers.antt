@@ -5,6 +5,7 @@ use Rattle.arch_model.specs.Archives.{Archive}
 use Rattle.arch_model.specs.Shelves.{ReadsAhead}
 use Rattle.arch_model.proofs.Shelving.{stays-joined}
 use Rattle.shelf_doors.proofs.Reading.{ahead-all}
+use Rattle.shelf_doors.specs.Refusals.{unread_line}
 use Rattle.shelf_doors.proofs.Streaming.{Under, under-stopped, under-all}
 use Rattle.imap_messages.specs.Fetching.{asked_fetch, fetch_said, fetch_words, fetch_lines, shown_items, message_line, reads_texts, texts_of}
 use Rattle.imap_messages.specs.FetchActs.{named_from}
@@ -82,8 +83,8 @@ returns-in-Err-clause-acts g c = λ a held inside.
     let named = (named-by f told (told_message (at + 1) (get_or c.uids-uids.result.now c.loop-index.index 0)) c.star-star.result true c.star-star.ensures (sym c.picks.ensures ∙ c.if-not-picks.false)) in
     let held' = c.loop-index.invariant.shelf.kept a held in
     let texts = texts-live a f told at (get_or c.uids-uids.result.now c.loop-index.index 0) (omega (arith, c.loop-index-test.true, c.count-count.ensures.all)) (ap (λ (x : List ℕ). get_or x c.loop-index.index 0) c.uids-uids.ensures) named (c.is_live.ensures a held' ∙ c.if-not-is_live.false) in
-    under-stopped (fetch_said a c.args.told.now f) a c.args.told.now (fetch_words a told f) (no_code f.tag) (nat_lt 0 (texts_of a f (picked f.numbering f.set told))) (fetch-ways a c.args.told.now f inside)
-    (fetch_lines a f (named_from f told at) c.loop-index.gone) (at_sink g.O.Sink c.args.out.now (g.S.Shelf.faults c.args.shelf.now)) c.loop-index.reply (at_sink g.O.Sink c.loop-index.out (g.S.Shelf.faults c.loop-index.shelf)) c.loop-index.begun (c.loop-index.invariant.so_far a held) (reads_texts f) (message_line a (shown_items f.numbering f.items) (told_message (at + 1) (get_or c.uids-uids.result.now c.loop-index.index 0))) _
+    under-stopped (fetch_said a c.args.told.now f) a c.args.told.now (fetch_words a told f) (unread_line (no_code f.tag)) (nat_lt 0 (texts_of a f (picked f.numbering f.set told))) (fetch-ways a c.args.told.now f inside)
+    (fetch_lines a f (named_from f told at) c.loop-index.gone) (at_sink g.O.Sink c.args.out.now (g.S.Shelf.faults c.args.shelf.now)) c.loop-index.reply (at_sink g.O.Sink c.loop-index.out (g.S.Shelf.faults c.loop-index.shelf)) refl c.loop-index.begun (c.loop-index.invariant.so_far a held) (reads_texts f) (message_line a (shown_items f.numbering f.items) (told_message (at + 1) (get_or c.uids-uids.result.now c.loop-index.index 0))) _
     c.push_message.new.reply c.in-Err.stop (at_sink g.O.Sink c.push_message.new.out (g.S.Shelf.faults c.push_message.new.shelf)) (at_sink g.O.Sink c.end.new.out (g.S.Shelf.faults c.push_message.new.shelf)) c.end.result
     (left-line a f told at (get_or c.uids-uids.result.now c.loop-index.index 0) (omega (arith, c.loop-index-test.true, c.count-count.ensures.all)) (ap (λ (x : List ℕ). get_or x c.loop-index.index 0) c.uids-uids.ensures) named c.loop-index.gone (c.is_live.ensures a held' ∙ c.if-not-is_live.false)) (left-some a f (named_from f told at) c.loop-index.gone) (texts-needed (reads_texts f) _ _ _ _ _ texts (c.loop-index.invariant.reads a held))
     (c.in-Err.ensures.line a held') (c.end.ensures.ends (g.S.Shelf.faults c.push_message.new.shelf))
@@ -113,7 +114,7 @@ returns-clause-acts g c = λ a held inside.
     let told = c.args.told.now.uids in
     let at = c.loop-index.index in
     rw c.after.ensures
-    (under-all (fetch_said a c.args.told.now f) a c.args.told.now (fetch_words a told f) (no_code f.tag) _ (fetch-ways a c.args.told.now f inside) (fetch_lines a f (named_from f told at) c.loop-index.gone) (at_sink g.O.Sink c.args.out.now (g.S.Shelf.faults c.args.shelf.now)) c.loop-index.reply (at_sink g.O.Sink c.loop-index.out (g.S.Shelf.faults c.loop-index.shelf))
+    (under-all (fetch_said a c.args.told.now f) a c.args.told.now (fetch_words a told f) (unread_line (no_code f.tag)) _ (fetch-ways a c.args.told.now f inside) (fetch_lines a f (named_from f told at) c.loop-index.gone) (at_sink g.O.Sink c.args.out.now (g.S.Shelf.faults c.args.shelf.now)) c.loop-index.reply (at_sink g.O.Sink c.loop-index.out (g.S.Shelf.faults c.loop-index.shelf))
     c.loop-index.begun (c.loop-index.invariant.so_far a held) (at_sink g.O.Sink c.say_end.new.out (g.S.Shelf.faults c.loop-index.shelf)) c.say_end.result refl
     (subst (λ (x : List ℕ). Says (c.loop-index.reply ++ x) (g.O.Sink.taken c.loop-index.out) (g.O.Sink.faults c.loop-index.out) (g.O.Sink.taken c.say_end.new.out) (g.O.Sink.faults c.say_end.new.out) c.say_end.result)
     (sym (named-none a f told at c.loop-index.gone (omega (arith, c.loop-index-test.false, c.count-count.ensures.all)))) c.say_end.ensures.said))

@@ -3,6 +3,7 @@ use Rattle.arch_model.specs.Archives.{live, text_of}
 use Rattle.arch_model.proofs.Shelving.{stays-same, stays-joined}
 use Rattle.line_door.specs.Readers.{as_said, line_reader}
 use Rattle.shelf_doors.proofs.Reading.{ahead-none, ahead-all}
+use Rattle.shelf_doors.specs.Refusals.{unread_line}
 use Rattle.shelf_doors.proofs.Streaming.{under-start, under-more, under-stopped, under-all}
 use Rattle.shelf_doors.proofs.Walking.{ahead-number, last-number}
 use Rattle.nntp_reader.specs.Commands.{Headers, Field, Within}
@@ -52,8 +53,8 @@ loop-next-preserved g c = record {
 pub returns-in-Err-clause-acts : goal.returns-in-Err-clause-acts
 returns-in-Err-clause-acts g c = λ moment a rest n held start.
     let before = c.loop-next.invariant.so_far a held in
-    under-stopped (λ way. as_said rest (in_way moment a c.args.group (Headers (Field c.args.name.now) (Within c.args.range)) way)) a (line_reader c.args.group rest) _ refused_code true
-    (range-streamed moment a c.args.group c.args.name.now c.args.range rest n start) _ _ _ _ c.loop-next.begun before.2 true (start_if (not c.loop-next.begun) ++ field_at c.args.name.now (live a.entries) c.in-Some.number) _ c.push_field.new.reply c.in-Err.stop _ _ c.end.result
+    under-stopped (λ way. as_said rest (in_way moment a c.args.group (Headers (Field c.args.name.now) (Within c.args.range)) way)) a (line_reader c.args.group rest) _ (unread_line refused_code) true
+    (range-streamed moment a c.args.group c.args.name.now c.args.range rest n start) _ _ _ _ refl c.loop-next.begun before.2 true (start_if (not c.loop-next.begun) ++ field_at c.args.name.now (live a.entries) c.in-Some.number) _ c.push_field.new.reply c.in-Err.stop _ _ c.end.result
     (left-value c.args.name.now (live a.entries) c.loop-next.begun before.0 c.args.range.last c.in-Some.number (fields-rest c.args.name.now (live a.entries) before.0 c.args.range.last c.in-Some.number (sym before.1 ∙ c.in-Some.is)))
     (left-some c.args.name.now (live a.entries) c.loop-next.begun before.0 c.args.range.last) (λ e. e) (c.in-Err.ensures.value a (c.loop-next.invariant.shelf.kept a held)) (c.end.ensures.ends (g.S.Shelf.faults c.push_field.new.shelf))
 
@@ -62,7 +63,7 @@ returns-clause-acts g c = λ moment a rest n held start.
     let before = c.loop-next.invariant.so_far a held in
     let none = left-none c.args.name.now (live a.entries) c.loop-next.begun before.0 c.args.range.last (sym before.1 ∙ c.in_default.is) in
     rw c.after.ensures
-    (under-all (λ way. as_said rest (in_way moment a c.args.group (Headers (Field c.args.name.now) (Within c.args.range)) way)) a (line_reader c.args.group rest) _ refused_code true
+    (under-all (λ way. as_said rest (in_way moment a c.args.group (Headers (Field c.args.name.now) (Within c.args.range)) way)) a (line_reader c.args.group rest) _ (unread_line refused_code) true
     (range-streamed moment a c.args.group c.args.name.now c.args.range rest n start) _ _ _ _ c.loop-next.begun before.2 _ c.finish.result refl (rw (none, ← c.start_if.ensures) c.finish.ensures.said))
 
 pub returns-in-Err-clause-reads : goal.returns-in-Err-clause-reads

@@ -1,4 +1,4 @@
-use Rattle.std.proofs.Common.{◌++◌, Some, None, refl, inl, inr, arith}
+use Rattle.std.proofs.Common.{◌++◌, None, refl, inl, inr, arith}
 use Rattle.keep_course.specs.Courses.{ShelfActs}
 use Rattle.keep_course.proofs.Courses.{coming-same, coming-more, coming-last}
 use Rattle.arch_model.proofs.Shelving.{stays-same, stays-joined}
