@@ -1,5 +1,5 @@
 //! An epoch of two messages that is written without the first one.
-use arch_base::{NoMemory, Numbers, id_of_hex};
+use arch_base::{Form, NoMemory, Numbers, id_of_hex};
 use disk_model::{Disk, DiskFault, FileKind, FileName, WalkRefusal};
 use epoch_file::{EpochPlan, NewEntry, Seen, SeenList, StoreRefusal, entry_piece, rewrite, walk};
 use fixtures::{FIRST, MOMENT, SECOND, SECOND_ID, add_entry, empty_disk};
@@ -35,13 +35,14 @@ pub(crate) fn put_two<D: Disk>(alloc: Global, disk: &mut D) -> Result<(), StoreR
     let mut new = NewEntry {
         kind: EntryKind::Message,
         text: FIRST,
-        ids: text_ids(FIRST),
+        ids: text_ids(FIRST, Form::Sha1),
         moment: MOMENT,
         parent: None,
+        form: Form::Sha1,
     };
     let first = add_entry(alloc, disk, EPOCH, 0, &new)?;
     new.text = SECOND;
-    new.ids = text_ids(SECOND);
+    new.ids = text_ids(SECOND, Form::Sha1);
     new.parent = Some(first.commit);
     add_entry(alloc, disk, EPOCH, first.end, &new)?;
     Ok(())
@@ -60,7 +61,7 @@ fn is_rewritten<D: Disk>(alloc: Global, disk: &mut D) -> Result<bool, Fail> {
     let mut gone = Numbers::new(alloc);
     gone.push(0)?;
     put_two(alloc, disk)?;
-    let count = rewrite(alloc, disk, EPOCH, 672, ANEW, &gone)?;
+    let count = rewrite(alloc, disk, EPOCH, 672, ANEW, &gone, Form::Sha1)?;
     let alone = has_second_alone(disk)?;
     Ok(count == 316 && alone)
 }
@@ -75,8 +76,8 @@ fn an_epoch_is_written_without_an_entry(rt: HostRuntime) -> Result<(), Fail> {
 /// Returns whether what is seen is the second mail, at the front of its epoch.
 fn is_second_alone(seen: &Seen) -> bool {
     let placed = seen.at == 8 && seen.text_at == 17 && seen.size == 103 && seen.moment == MOMENT;
-    let blob = Some(seen.blob) == id_of_hex(SECOND_ID);
-    placed && blob && Some(seen.commit) == id_of_hex(ALONE_COMMIT)
+    let blob = Some(seen.blob) == id_of_hex(SECOND_ID, Form::Sha1);
+    placed && blob && Some(seen.commit) == id_of_hex(ALONE_COMMIT, Form::Sha1)
 }
 
 /// Leaves the first of two entries out and keeps the second, and returns whether that moves to the
@@ -113,8 +114,8 @@ fn is_anew(plan: &PartPlan) -> bool {
 /// Plans the epoch of both mails without the first one, and returns whether all is as is due.
 fn is_planned<D: Disk>(alloc: Global, disk: &mut D) -> Result<bool, Fail> {
     put_two(alloc, disk)?;
-    let seen = walk(alloc, disk, EPOCH, 672)?;
-    let mut plan = EpochPlan::new(EPOCH);
+    let seen = walk(alloc, disk, EPOCH, 672, Form::Sha1)?;
+    let mut plan = EpochPlan::new(EPOCH, Form::Sha1);
     let kept = keeps_second(alloc, disk, &mut plan, &seen)?;
     Ok(kept && is_finished(alloc, plan))
 }
@@ -132,13 +133,14 @@ fn has_piece(alloc: Global) -> Result<bool, NoMemory> {
     let new = NewEntry {
         kind: EntryKind::Message,
         text: SECOND,
-        ids: text_ids(SECOND),
+        ids: text_ids(SECOND, Form::Sha1),
         moment: MOMENT,
         parent: None,
+        form: Form::Sha1,
     };
     let (piece, ids) = entry_piece(alloc, 0, &new)?;
-    let blob = Some(ids.blob) == id_of_hex(SECOND_ID);
-    let commit = Some(ids.commit) == id_of_hex(ALONE_COMMIT);
+    let blob = Some(ids.blob) == id_of_hex(SECOND_ID, Form::Sha1);
+    let commit = Some(ids.commit) == id_of_hex(ALONE_COMMIT, Form::Sha1);
     Ok(blob && commit && piece.as_slice() == ALONE)
 }
 

@@ -1,8 +1,8 @@
 //! A map of two messages that is written without the first one.
 ghost use Rattle.std.specs.Prelude.{◌≡◌, [], ◌∷◌, IfOk};
 
-use arch_base::{ObjectId, MessageNumbers, NoMemory};
-use disk_model::{Disk, DiskFault, FileKind, FileName, RECORD_SIZE, WalkRefusal};
+use arch_base::{Form, MessageNumbers, NoMemory, ObjectId};
+use disk_model::{Disk, DiskFault, FileKind, FileName, WalkRefusal, record_size};
 use fixtures::empty_disk;
 use number_map::{Record, append, plan_without, push_record, rewrite};
 use root_change::{PartPlan, Target};
@@ -28,12 +28,12 @@ const LINES: [Record; 2] = [
     Record {
         number: 1,
         epoch: 0,
-        blob: ObjectId(*b"abcdefghijklmnopqrst"),
+        blob: ObjectId::Sha1(*b"abcdefghijklmnopqrst"),
     },
     Record {
         number: 2,
         epoch: 0,
-        blob: ObjectId(*b"ABCDEFGHIJKLMNOPQRST"),
+        blob: ObjectId::Sha1(*b"ABCDEFGHIJKLMNOPQRST"),
     },
 ];
 
@@ -41,7 +41,7 @@ const LINES: [Record; 2] = [
 const GONE: Record = Record {
     number: 1,
     epoch: 4_294_967_295,
-    blob: ObjectId([0; 20]),
+    blob: ObjectId::Sha1([0; 20]),
 };
 
 /// The bytes of that record and of the second message's.
@@ -62,10 +62,10 @@ fn first(alloc: Global) -> Result<MessageNumbers, NoMemory>
 fn put_two<D: Disk>(disk: &mut D) -> Result<(), DiskFault> {
     let [first, second] = &LINES;
     append(disk, MAP, 0, first)?;
-    if disk.length(MAP)? < RECORD_SIZE as u64 {
+    if disk.length(MAP)? < record_size(Form::Sha1) as u64 {
         return Err(DiskFault);
     }
-    append(disk, MAP, RECORD_SIZE as u64, second)
+    append(disk, MAP, record_size(Form::Sha1) as u64, second)
 }
 
 /// Returns whether a file has the records of a purged message and of the other one.
@@ -80,7 +80,7 @@ fn has_bytes<D: Disk>(disk: &mut D, file: FileName) -> Result<bool, DiskFault> {
 fn is_rewritten<D: Disk>(alloc: Global, disk: &mut D) -> Result<bool, WalkRefusal> {
     let gone = first(alloc)?;
     put_two(disk)?;
-    rewrite(alloc, disk, MAP, 2, ANEW, &gone)?;
+    rewrite(alloc, disk, MAP, 2, ANEW, &gone, Form::Sha1)?;
     Ok(has_bytes(disk, ANEW)?)
 }
 
@@ -95,7 +95,7 @@ fn a_map_is_written_without_a_message(rt: HostRuntime) -> Result<(), Fail> {
 /// one of which is new.
 fn plans_two(alloc: Global) -> Result<bool, NoMemory> {
     let gone = first(alloc)?;
-    let plan = plan_without(alloc, MAP, 2, &gone)?;
+    let plan = plan_without(alloc, MAP, 2, &gone, Form::Sha1)?;
     let part = plan.kind() == FileKind::Map && plan.number() == 0 && plan.target() == Target::Anew;
     Ok(part && plan.count() == 56 && plan.bytes() == BYTES.split_at(28).0)
 }

@@ -8,7 +8,7 @@ ghost use Rattle.epoch_store.specs.Commands.{StoreHasSizes, MayEdit, MayPurge};
 use crate::entries_tests::{ALONE_COMMIT, put_two};
 use crate::map_tests::BYTES;
 use crate::plan_tests::ROOT;
-use arch_base::{ObjectId, ObjectId, id_of_hex};
+use arch_base::{Form, ObjectId, id_of_hex};
 use disk_model::{Disk, DiskFault, FileKind, FileName, MemDisk};
 use epoch_file::StoreRefusal;
 use epoch_store::Store;
@@ -82,8 +82,8 @@ fn add_record(disk: &mut MemDisk, number: u32, blob: ObjectId) -> Result<(), Dis
 fn filled(alloc: Global) -> Result<MemDisk, StoreRefusal> {
     let mut disk = empty_disk(alloc);
     put_two(alloc, &mut disk)?;
-    add_record(&mut disk, 1, blob_id(FIRST))?;
-    add_record(&mut disk, 2, blob_id(SECOND))?;
+    add_record(&mut disk, 1, blob_id(FIRST, Form::Sha1))?;
+    add_record(&mut disk, 2, blob_id(SECOND, Form::Sha1))?;
     put_root(&mut disk)?;
     disk.sync()?;
     Ok(disk)
@@ -155,7 +155,7 @@ fn may_edit(store: &Store, blob: &ObjectId, text: &[u8]) -> bool
 fn purge_first<D: Disk>(alloc: Global, disk: &mut D, store: &mut Store) -> Result<(), StoreRefusal>
     requires sizes { WhereTold (StoreHasSizes store.old) (D.content disk.old) }
 {
-    let blob = blob_id(FIRST);
+    let blob = blob_id(FIRST, Form::Sha1);
     if !may_purge(store, &blob) {
         return Err(StoreRefusal::Damaged { file: ROOT, at: 4 });
     }
@@ -166,11 +166,18 @@ fn purge_first<D: Disk>(alloc: Global, disk: &mut D, store: &mut Store) -> Resul
 fn edit_first<D: Disk>(alloc: Global, disk: &mut D, store: &mut Store) -> Result<(), StoreRefusal>
     requires sizes { WhereTold (StoreHasSizes store.old) (D.content disk.old) }
 {
-    let blob = blob_id(FIRST);
+    let blob = blob_id(FIRST, Form::Sha1);
     if !may_edit(store, &blob, THIRD) {
         return Err(StoreRefusal::Damaged { file: ROOT, at: 5 });
     }
-    store.edit_text(alloc, disk, &blob, THIRD, &text_ids(THIRD), LATER)
+    store.edit_text(
+        alloc,
+        disk,
+        &blob,
+        THIRD,
+        &text_ids(THIRD, Form::Sha1),
+        LATER,
+    )
 }
 
 /// Returns whether the first entry of an archive is the second mail, with the commit that git gives it
@@ -180,8 +187,8 @@ fn has_second_first(store: &Store) -> bool {
         return false;
     };
     let named = line.kind == EntryKind::Message && line.number == 2 && line.secs == MOMENT;
-    let blob = Some(line.blob) == id_of_hex(SECOND_ID);
-    let commit = Some(line.commit) == id_of_hex(ALONE_COMMIT);
+    let blob = Some(line.blob) == id_of_hex(SECOND_ID, Form::Sha1);
+    let commit = Some(line.commit) == id_of_hex(ALONE_COMMIT, Form::Sha1);
     named && blob && commit && store.place(0) == Some((first_epoch(4), 8))
 }
 
@@ -233,7 +240,7 @@ fn has_third_second(store: &Store) -> bool {
     };
     let named = line.kind == EntryKind::Message && line.number == 3 && line.secs == LATER;
     let place = store.place(1) == Some((first_epoch(4), 316));
-    named && line.blob == blob_id(THIRD) && line.epoch == 0 && place
+    named && line.blob == blob_id(THIRD, Form::Sha1) && line.epoch == 0 && place
 }
 
 /// Returns whether an archive has the second mail and the third one.
