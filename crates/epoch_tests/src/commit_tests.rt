@@ -1,8 +1,8 @@
 //! Commits and epochs against git, and authors against the rules.
-use arch_base::{Bytes, NoMemory, ObjectId, id_of_hex};
+use arch_base::{Bytes, Form, NoMemory, ObjectId, id_of_hex};
 use fixtures::{FIRST, FIRST_COMMIT, FIRST_ID, MOMENT, SECOND, SECOND_COMMIT};
 use git_objects::{Commit, EntryKind, blob_id, commit_bytes, object_id, tree_bytes};
-use mail_commits::{EntryIds, entry_commit, push_entry};
+use mail_commits::{EntryIds, EntryText, entry_commit, push_entry};
 use mail_reader::stored;
 use std::alloc::Global;
 use std::test::Fail;
@@ -11,25 +11,49 @@ use std::test::Fail;
 const MAIL: &[u8] =
     b"From bob@example.net Thu Feb  1 12:00:00 2024\r\nReceived: from mx.example.net\r\n\tby lists.example.org; Thu, 1 Feb 2024 11:59:58 +0100\r\nFrom: =?UTF-8?Q?Bj=C3=B6rn?= <bob@example.net>\r\nTo: list@example.org\r\nSubject: [PATCH 1/2] fix\r\n\tthe build\r\nDate: Thu, 1 Feb 2024 11:59:57 +0100 (CET)\r\nMessage-ID: <p1@example.net>\r\nReferences: <a@x>\r\n <b@x>\r\nStatus: RO\r\n\r\n> quoted\r\ndiff\r\n";
 
+/// Returns the id of the tree of a message with a text.
+fn tree_id(text: &[u8]) -> ObjectId {
+    let tree = tree_bytes(EntryKind::Message, &blob_id(text, Form::Sha1));
+    object_id(tree.as_slice(), Form::Sha1)
+}
+
 /// Returns the commit of a text without a parent, with the tree that has the text.
 fn commit_alone(alloc: Global, text: &[u8], moment: u64) -> Result<Commit, NoMemory> {
-    let tree = object_id(&tree_bytes(EntryKind::Message, &blob_id(text)));
+    let tree = tree_id(text);
     entry_commit(alloc, text, &tree, None, moment)
 }
 
 /// Returns the id of the commit of `MAIL` in its storage form, or `None` out of memory.
 fn commit_id_of_mail(alloc: Global) -> Option<ObjectId> {
     let text = stored(alloc, MAIL).ok()?;
-    let tree = object_id(&tree_bytes(EntryKind::Message, &blob_id(text.as_slice())));
+    let tree = tree_id(text.as_slice());
     let commit = entry_commit(alloc, text.as_slice(), &tree, None, 1_706_785_200).ok()?;
     let spelling = commit_bytes(alloc, &commit).ok()?;
-    Some(object_id(spelling.as_slice()))
+    Some(object_id(spelling.as_slice(), Form::Sha1))
 }
 
 #[test]
 fn a_mail_has_the_commit_of_git(rt: HostRuntime) {
-    let wanted = id_of_hex(b"51e540b2b6ca52ad17a770e97c87d3b703039485");
+    let wanted = id_of_hex(b"51e540b2b6ca52ad17a770e97c87d3b703039485", Form::Sha1);
     assert!(rt; commit_id_of_mail(rt.alloc()) == wanted);
+}
+
+/// Appends an entry of a text to an epoch, and returns its ids.
+fn push(
+    alloc: Global,
+    kind: EntryKind,
+    text: &[u8],
+    parent: Option<ObjectId>,
+    epoch: &mut Bytes,
+) -> Result<EntryIds, NoMemory> {
+    let form = Form::Sha1;
+    let entry = EntryText {
+        form,
+        kind,
+        text,
+        moment: MOMENT,
+    };
+    push_entry(alloc, &entry, &blob_id(text, form), parent, epoch)
 }
 
 /// Returns the ids of the commits of two entries of an epoch, each with the epoch's length after
@@ -37,27 +61,9 @@ fn a_mail_has_the_commit_of_git(rt: HostRuntime) {
 fn two_entries(alloc: Global) -> Result<(ObjectId, usize, ObjectId, usize), NoMemory> {
     let mut epoch = Bytes::new(alloc);
     epoch.push_slice(b"PIV2EP1\n")?;
-    let first = push_entry(
-        alloc,
-        EntryKind::Message,
-        FIRST,
-        &blob_id(FIRST),
-        MOMENT,
-        None,
-        &mut epoch,
-    )?
-    .commit;
+    let first = push(alloc, EntryKind::Message, FIRST, None, &mut epoch)?.commit;
     let one = epoch.as_slice().len();
-    let second = push_entry(
-        alloc,
-        EntryKind::Message,
-        SECOND,
-        &blob_id(SECOND),
-        MOMENT,
-        Some(first),
-        &mut epoch,
-    )?
-    .commit;
+    let second = push(alloc, EntryKind::Message, SECOND, Some(first), &mut epoch)?.commit;
     Ok((first, one, second, epoch.as_slice().len()))
 }
 
@@ -66,8 +72,8 @@ fn an_epoch_has_the_objects_of_git(rt: HostRuntime) {
     match two_entries(rt.alloc()) {
         Ok((first, one, second, two)) => {
             assert!(rt; one == 316 && two == 672);
-            assert!(rt; Some(first) == id_of_hex(FIRST_COMMIT));
-            assert!(rt; Some(second) == id_of_hex(SECOND_COMMIT));
+            assert!(rt; Some(first) == id_of_hex(FIRST_COMMIT, Form::Sha1));
+            assert!(rt; Some(second) == id_of_hex(SECOND_COMMIT, Form::Sha1));
         }
         Err(NoMemory) => assert!(rt; false),
     }
@@ -76,21 +82,11 @@ fn an_epoch_has_the_objects_of_git(rt: HostRuntime) {
 /// Returns the ids of a deletion's entry after a message's, and the length of both entries.
 fn deletion(alloc: Global) -> Result<(EntryIds, usize), NoMemory> {
     let mut epoch = Bytes::new(alloc);
-    let message = push_entry(
-        alloc,
-        EntryKind::Message,
-        FIRST,
-        &blob_id(FIRST),
-        MOMENT,
-        None,
-        &mut epoch,
-    )?;
-    let ids = push_entry(
+    let message = push(alloc, EntryKind::Message, FIRST, None, &mut epoch)?;
+    let ids = push(
         alloc,
         EntryKind::Deletion,
         FIRST,
-        &blob_id(FIRST),
-        MOMENT,
         Some(message.commit),
         &mut epoch,
     )?;
@@ -102,8 +98,11 @@ fn a_deletion_has_the_objects_of_git(rt: HostRuntime) {
     match deletion(rt.alloc()) {
         Ok((ids, len)) => {
             assert!(rt; len == 664);
-            assert!(rt; Some(ids.blob) == id_of_hex(FIRST_ID));
-            assert!(rt; Some(ids.commit) == id_of_hex(b"e253e69d44ecbc2174d67cdd415d3b3c1ebdef26"));
+            assert!(rt; Some(ids.blob) == id_of_hex(FIRST_ID, Form::Sha1));
+            assert!(rt;
+                Some(ids.commit)
+                    == id_of_hex(b"e253e69d44ecbc2174d67cdd415d3b3c1ebdef26", Form::Sha1)
+            );
         }
         Err(NoMemory) => assert!(rt; false),
     }

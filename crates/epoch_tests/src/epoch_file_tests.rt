@@ -3,7 +3,7 @@
 ghost use Rattle.std.specs.Prelude.{◌≡◌};
 ghost use Rattle.mail_commits.specs.Ids.{text_ids_of};
 
-use arch_base::{Bytes, NoMemory, ObjectId, id_of_hex};
+use arch_base::{Bytes, Form, NoMemory, ObjectId, id_of_hex};
 use disk_model::{Disk, DiskFault, FileKind, FileName, FuseDisk, WalkRefusal};
 use epoch_file::{NewEntry, Seen, StoreRefusal, Written, law_of_epochs, walk};
 use fixtures::{
@@ -11,7 +11,7 @@ use fixtures::{
     empty_disk, write,
 };
 use git_objects::{EntryKind, blob_id, object_id};
-use mail_commits::{push_entry, text_ids};
+use mail_commits::{EntryText, magic, push_entry, text_ids};
 use std::alloc::Global;
 use std::process::Abort;
 use std::test::Fail;
@@ -29,53 +29,68 @@ const FILE: FileName = FileName {
 /// The length of the epoch: the first message, the second, and the first deleted.
 const LENGTH: u64 = 1028;
 
-/// Returns an entry.
+/// Returns an entry with SHA-1 ids.
 fn entry(kind: EntryKind, text: &[u8], moment: u64, parent: Option<ObjectId>) -> NewEntry<'_>
-    ensures { result.ids ≡ text_ids_of result.text.now }
+    ensures { result.ids ≡ text_ids_of result.form result.text.now }
+{
+    entry_in(Form::Sha1, kind, text, moment, parent)
+}
+
+/// Returns an entry with ids of a form.
+fn entry_in(
+    form: Form,
+    kind: EntryKind,
+    text: &[u8],
+    moment: u64,
+    parent: Option<ObjectId>,
+) -> NewEntry<'_>
+    ensures { result.ids ≡ text_ids_of result.form result.text.now }
 {
     NewEntry {
         kind,
         text,
-        ids: text_ids(text),
+        ids: text_ids(text, form),
         moment,
         parent,
+        form,
     }
 }
 
-/// Appends the three entries to the file, and returns where each ends, and its ids.
+/// Appends the three entries to the file with SHA-1 ids, and returns where each ends, and its ids.
 fn fill<D: Disk>(alloc: Global, disk: &mut D) -> Result<(Written, Written, Written), StoreRefusal> {
-    let first = add_entry(
-        alloc,
-        disk,
-        FILE,
-        0,
-        &entry(EntryKind::Message, FIRST, MOMENT, None),
-    )?;
-    let second = add_entry(
-        alloc,
-        disk,
-        FILE,
-        first.end,
-        &entry(EntryKind::Message, SECOND, MOMENT, Some(first.commit)),
-    )?;
-    let third = add_entry(
-        alloc,
-        disk,
-        FILE,
-        second.end,
-        &entry(
-            EntryKind::Deletion,
-            FIRST,
-            1_706_781_800,
-            Some(second.commit),
-        ),
-    )?;
+    fill_in(alloc, disk, Form::Sha1)
+}
+
+/// Appends the three entries to the file with ids of a form.
+fn fill_in<D: Disk>(
+    alloc: Global,
+    disk: &mut D,
+    form: Form,
+) -> Result<(Written, Written, Written), StoreRefusal> {
+    let new = entry_in(form, EntryKind::Message, FIRST, MOMENT, None);
+    let first = add_entry(alloc, disk, FILE, 0, &new)?;
+    let after = Some(first.commit);
+    let new = entry_in(form, EntryKind::Message, SECOND, MOMENT, after);
+    let second = add_entry(alloc, disk, FILE, first.end, &new)?;
+    let after = Some(second.commit);
+    let new = entry_in(form, EntryKind::Deletion, FIRST, 1_706_781_800, after);
+    let third = add_entry(alloc, disk, FILE, second.end, &new)?;
     Ok((first, second, third))
 }
 
-/// Returns how many entries a walk finds, or why it stops.
+/// Returns how many entries with SHA-1 ids a walk finds, or why it stops.
 fn count<D: Disk>(alloc: Global, disk: &mut D, length: u64) -> Result<usize, WalkRefusal> {
-    let seen = walk(alloc, disk, FILE, length)?;
+    count_of(alloc, disk, length, Form::Sha1)
+}
+
+/// Returns how many entries with ids of a form a walk finds, or why it stops.
+fn count_of<D: Disk>(
+    alloc: Global,
+    disk: &mut D,
+    length: u64,
+    form: Form,
+) -> Result<usize, WalkRefusal> {
+    let seen = walk(alloc, disk, FILE, length, form)?;
     Ok(seen.as_slice().len())
 }
 
@@ -101,13 +116,13 @@ fn is_entry(
 /// Returns whether the entries end where they should and have the ids that git gives them.
 fn are_written(first: &Written, second: &Written, third: &Written) -> bool {
     let ends = first.end == 316 && second.end == 672 && third.end == LENGTH;
-    let blob = id_of_hex(FIRST_ID);
+    let blob = id_of_hex(FIRST_ID, Form::Sha1);
     let blobs = Some(first.blob) == blob
-        && Some(second.blob) == id_of_hex(SECOND_ID)
+        && Some(second.blob) == id_of_hex(SECOND_ID, Form::Sha1)
         && Some(third.blob) == blob;
-    let commits = Some(first.commit) == id_of_hex(FIRST_COMMIT)
-        && Some(second.commit) == id_of_hex(SECOND_COMMIT)
-        && Some(third.commit) == id_of_hex(b"0226d8ce5d3c8b5696c8160864001653bc08f512");
+    let commits = Some(first.commit) == id_of_hex(FIRST_COMMIT, Form::Sha1)
+        && Some(second.commit) == id_of_hex(SECOND_COMMIT, Form::Sha1)
+        && Some(third.commit) == id_of_hex(b"0226d8ce5d3c8b5696c8160864001653bc08f512", Form::Sha1);
     ends && blobs && commits
 }
 
@@ -116,8 +131,8 @@ fn are_written(first: &Written, second: &Written, third: &Written) -> bool {
 fn has_bytes<D: Disk>(disk: &mut D) -> Result<bool, DiskFault> {
     let mut bytes = [0; 1029];
     let count = disk.read(FILE, 0, &mut bytes)?;
-    let all = object_id(bytes.split_at(1028).0);
-    let same = Some(all) == id_of_hex(b"f2f5ceb1c17aa3c6cc89683f80cf518e10584467");
+    let all = object_id(bytes.split_at(1028).0, Form::Sha1);
+    let same = Some(all) == id_of_hex(b"f2f5ceb1c17aa3c6cc89683f80cf518e10584467", Form::Sha1);
     Ok(count == 1028 && same)
 }
 
@@ -140,7 +155,7 @@ fn sees_entries<D: Disk>(
     second: &Written,
     third: &Written,
 ) -> Result<bool, WalkRefusal> {
-    let found = walk(alloc, disk, FILE, LENGTH)?;
+    let found = walk(alloc, disk, FILE, LENGTH, Form::Sha1)?;
     let [one, two, three] = found.as_slice() else {
         return Ok(false);
     };
@@ -321,17 +336,15 @@ fn a_call_that_fails_is_no_answer(rt: HostRuntime) -> Result<(), Fail> {
 /// Returns the bytes of an epoch of one entry.
 fn epoch_of(alloc: Global, text: &[u8], moment: u64) -> Result<Bytes, NoMemory> {
     let mut bytes = Bytes::new(alloc);
-    bytes.push_slice(b"PIV2EP1\n")?;
-    let blob = blob_id(text);
-    push_entry(
-        alloc,
-        EntryKind::Message,
+    let form = Form::Sha1;
+    bytes.push_slice(&magic(form))?;
+    let entry = EntryText {
+        form,
+        kind: EntryKind::Message,
         text,
-        &blob,
         moment,
-        None,
-        &mut bytes,
-    )?;
+    };
+    push_entry(alloc, &entry, &blob_id(text, form), None, &mut bytes)?;
     Ok(bytes)
 }
 
@@ -479,7 +492,7 @@ fn sees_long<D: Disk>(
     long: &Written,
     last: &Written,
 ) -> Result<bool, WalkRefusal> {
-    let found = walk(alloc, disk, FILE, last.end)?;
+    let found = walk(alloc, disk, FILE, last.end, Form::Sha1)?;
     let [one, two] = found.as_slice() else {
         return Ok(false);
     };
@@ -519,5 +532,60 @@ fn walk_long<D: Disk>(alloc: Global, disk: &mut D) -> Result<bool, Fail> {
 fn an_entry_may_be_longer_than_what_is_read_at_once(rt: HostRuntime) -> Result<(), Fail> {
     let mut disk = empty_disk(rt.alloc());
     assert!(rt; walk_long(rt.alloc(), &mut disk)?);
+    Ok(())
+}
+
+/// The length of the epoch with SHA-256 ids.
+const LONGER: u64 = 1184;
+
+/// Returns whether the entries end where they should and have the SHA-256 ids that git gives them.
+fn are_written_longer(first: &Written, second: &Written, third: &Written) -> bool {
+    let form = Form::Sha256;
+    let ends = first.end == 352 && second.end == 768 && third.end == LONGER;
+    let blob = id_of_hex(
+        b"70b16dd75f8e20a6ef189426d439d7b42c747bf41f86ce4d7127c6e6fe19cd8f",
+        form,
+    );
+    let commit = id_of_hex(
+        b"dc16e2a70742fd93a58ead7bf540cca89aaa8485879d3c28c1365f62ac13b774",
+        form,
+    );
+    ends && Some(first.blob) == blob && Some(third.blob) == blob && Some(third.commit) == commit
+}
+
+/// Returns whether the file has as many bytes as it should, of the SHA-256 that another program gives
+/// them.
+fn has_longer_bytes<D: Disk>(disk: &mut D) -> Result<bool, DiskFault> {
+    let mut bytes = [0; 1185];
+    let count = disk.read(FILE, 0, &mut bytes)?;
+    let all = object_id(bytes.split_at(1184).0, Form::Sha256);
+    let same = Some(all)
+        == id_of_hex(
+            b"a4bc6e4705b4dd3d5e11f287609f2d63710a1da72e835e730cfaa6540d998fbf",
+            Form::Sha256,
+        );
+    Ok(count == 1184 && same)
+}
+
+#[test]
+fn an_epoch_of_sha256_ids_is_walked_in_that_form_alone(rt: HostRuntime) -> Result<(), Fail> {
+    let alloc = rt.alloc();
+    let mut disk = empty_disk(alloc);
+    let (first, second, third) = fill_in(alloc, &mut disk, Form::Sha256)?;
+    assert!(rt; are_written_longer(&first, &second, &third));
+    assert!(rt; has_longer_bytes(&mut disk)?);
+    assert_eq!(rt; count_of(alloc, &mut disk, LONGER, Form::Sha256), Ok(3));
+    let other = count_of(alloc, &mut disk, LONGER, Form::Sha1);
+    assert_eq!(rt; other, Err(WalkRefusal::Damaged { at: 0 }));
+    Ok(())
+}
+
+#[test]
+fn an_epoch_of_sha1_ids_is_damaged_in_the_other_form(rt: HostRuntime) -> Result<(), Fail> {
+    let alloc = rt.alloc();
+    let mut disk = empty_disk(alloc);
+    fill(alloc, &mut disk)?;
+    let other = count_of(alloc, &mut disk, LENGTH, Form::Sha256);
+    assert_eq!(rt; other, Err(WalkRefusal::Damaged { at: 0 }));
     Ok(())
 }
