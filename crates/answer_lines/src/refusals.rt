@@ -43,7 +43,8 @@ pub fn say_unread<O: Sink>(refusal: TextRefusal, out: &mut O) -> Result<(), Sink
 /// Writes that a text is damaged: its id, and the id of the bytes found in its place.
 fn say_other_text<O: Sink>(named: &ObjectId, found: &ObjectId, out: &mut O) -> Result<(), SinkFault>
     ensures said { SaysTo O.Sink (whole_line (codes "11 damaged "
-        ++ (encode_lower (id_bytes named.now) ++ 32 ∷ encode_lower (id_bytes found.now)))) out.old out.new result }
+        ++ (encode_lower (id_bytes named.now) ++ 32 ∷ encode_lower (id_bytes found.now))))
+        out.old out.new result }
     ensures sink { O.alike out.old out.new }
 {
     say(b"11 damaged ", out)?;

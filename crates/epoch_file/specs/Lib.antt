@@ -1,10 +1,10 @@
 pub mod Entries
 pub mod Appending
 pub mod Walking
-pub mod Sights
 pub mod Lying
 pub mod Runs
 pub mod Planning
+pub mod Sights
 pub mod Windows
 pub mod Reading
 pub mod Steps

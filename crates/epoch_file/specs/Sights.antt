@@ -1,4 +1,4 @@
--- How much of an entry is at the front of held bytes that more bytes follow.
+-- Private: how much of an entry is at the front of held bytes that more bytes follow.
 use Rattle.std.specs.Prelude.{◌≡◌, ◌⊎◌, ℕ, ◌+◌, ◌<◌, ◌≤◌, ◌^◌, Bool, true, false, List, ◌∷◌, ◌++◌, length, drop, codes, Option, Some}
 use Rattle.std.specs.Fmt.{decimal}
 use Rattle.arch_base.specs.declared.ids.Form.{Form}

@@ -1,7 +1,7 @@
 pub mod CleanText
 pub mod Fronts
 pub mod Objects
+pub mod Trees
 pub mod Commits
 pub mod Reading
 pub mod Laws
-pub mod Trees

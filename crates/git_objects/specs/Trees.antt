@@ -1,5 +1,4 @@
--- Private: the bytes of a tree's spelling around the name of its file and the id, by the form of
--- the id.
+-- The size of a tree's spelling and its bytes before the name of its file, by the form of its id.
 use Rattle.std.specs.Prelude.{ℕ, List, codes}
 use Rattle.arch_base.specs.declared.ids.Form.{Form}
 use Rattle.arch_base.specs.declared.ids.Form.TheVariants.{Sha1, Sha256}
