@@ -261,9 +261,6 @@ module _ {D : Type 0} (g : Disk D) where
   pub runs_between : (slot : ℕ) (came : Option (List ℕ)) (old new : D) → slot < 2 → RunsOneRoot g slot came old new → RunsBetween g old new
   runs_between slot came old new low run = weaker g old new (OneRootStays slot came (g.content old)) (BetweenStays (g.content old)) run (λ image. one_between slot came (g.content old) image low)
 
-  pub begins_between : (old new : D) → BeginsOneRoot g old new → RunsBetween g old new
-  begins_between old new one = runs_between one.slot one.came old new one.in_range one.crash
-
   -- A run that begins no root.
   pub none_begins : (old new : D) → BeginsNoRoot g old new → BeginsOneRoot g old new
   none_begins old new none = record { slot = none.slot; in_range = none.in_range; came = None; crash = none.crash }
