@@ -8,6 +8,7 @@ pub mod Leaving
 pub mod OnDisk
 pub mod Committing
 pub mod Rows
+pub mod AfterInit
 pub mod PlayedEvents
 pub mod ServedNumbers
 pub mod ServedDisk

@@ -77,7 +77,7 @@ asked-on words (Load count seed) on asked = false≢true (sym (ap asks_on asked.
 asked-on words (Serve turns port) on asked = false≢true (sym (ap asks_on asked.is) ∙ on)
 
 -- Words that ask for a job on the archive ask for no other.
-only-on : (words : List (List ℕ)) (job : Job) → AsksOfArchive words → AsksFor words job → IsOnArchive job
+pub only-on : (words : List (List ℕ)) (job : Job) → AsksOfArchive words → AsksFor words job → IsOnArchive job
 only-on words job asked also = asked-on words job (on-asked words asked.0 asked.1 asked.2) also
 
 -- Words that ask to make an archive ask for nothing else.
@@ -316,7 +316,7 @@ module _ (keeps : KeepsNumbers) (takes : TakesFromView) (itself : FollowsItself)
   follows-as : (a b c : Archive) → b ≡ c → Follows a c → Follows a b
   follows-as a b c same follows = subst (λ (x : Archive). Follows a x) (sym same) follows
 
-  goes-by : (words : List (List ℕ)) (i : RunState) (a b : Archive) → FromBy words i a b → Goes words i a b
+  pub goes-by : (words : List (List ℕ)) (i : RunState) (a b : Archive) → FromBy words i a b → Goes words i a b
   goes-by words i a b (inl same) = record { from = inl same; texts = λ n text spared unpurged unedited is. subst (λ (x : Archive). text_of (live x.entries) n ≡ Some text) (sym same) is; numbers = follows-as a b a same (itself a) }
   goes-by words i a b (inr (inl more)) = record {
     from = inr (inl more);

@@ -1,17 +1,34 @@
 -- The laws of transcripts, of the job of a run, and of runs in order.
-use Rattle.std.specs.Prelude.{◌≡◌, ◌⊎◌, ℕ, List, Some, Option}
+use Rattle.std.specs.Prelude.{◌≡◌, ◌⊎◌, ℕ, List, [], Some, Option}
 use Rattle.arch_base.specs.declared.config.Config.{Config}
+use Rattle.disk_model.specs.declared.disk.Disk.{Ghosts as Disk}
+use Rattle.disk_model.specs.declared.name.FileName.{FileName}
 use Rattle.disk_model.specs.Disk.{Files, Content, Image}
-use Rattle.edge_io.specs.Coming.{IsFirstMoment}
+use Rattle.disk_model.specs.Moments.{LeavesOnly}
+use Rattle.edge_io.specs.Coming.{Moments, IsFirstMoment}
 use Rattle.edge_io.specs.Scripts.{Arrival}
 use Rattle.arch_model.specs.Archives.{Archive, empty_archive, live, text_of}
 use Rattle.arch_model.specs.Delivery.{delivered, removed, purged, edited}
 use Rattle.arch_model.specs.Following.{Follows}
+use Rattle.arch_model.specs.declared.opening.OpenRefusal.{OpenRefusal}
+use Rattle.arch_model.specs.declared.opening.OpenRefusal.TheVariants as opening
+use Rattle.root_slots.specs.RootName.{root_name}
+use Rattle.root_slots.specs.Slots.{IsShutFile}
 use Rattle.store_finding.specs.Recovery.{Recovers}
+use Rattle.epoch_store.specs.First.{RecoversFirst}
+use Rattle.epoch_store.specs.Opens.{ReadsWith}
+use Rattle.epoch_store.specs.Promises.{Appends, Renews}
+use Rattle.answer_lines.specs.Lines.{whole_line}
 use Rattle.archive_cli.specs.declared.words.Job.{Job}
-use Rattle.archive_cli.specs.declared.words.Job.TheVariants.{Init, Deliver, Remove, Purge, Edit}
+use Rattle.archive_cli.specs.declared.words.Job.TheVariants.{Init, Deliver, Remove, Purge, Edit, Reindex, Check}
+use Rattle.archive_cli.specs.declared.outcome.Outcome.{Outcome}
+use Rattle.archive_cli.specs.declared.status.Status.{Status}
+use Rattle.archive_cli.specs.DiskCommands.{TakesTo, ReindexesTo, ChecksTo, delivering, removing, purging, editing}
+use Rattle.archive_cli.specs.Jobs.{DueRule, ShortDue}
+use Rattle.archive_cli.specs.Outcomes.{outcome_line, refusal_line, refusal_status, status_of}
+use Rattle.archive_cli.specs.Statuses.{code_of}
 use Rattle.archive_cli.specs.Words.{AsksFor, IsJob}
-use Rattle.archive_cli.specs.Program.{RunState, RanTo, IsInput, AsksForInit, AsksOfArchive, AsksForEdit, AsksForPurge, message_of, made_at}
+use Rattle.archive_cli.specs.Program.{RunState, RanTo, RanBy, IsInput, IsOnArchive, AsksForInit, AsksOfArchive, AsksForEdit, AsksForPurge, WordsLeave, message_of, made_at}
 use Rattle.archive_cli.specs.Turns.{Transcript, plain_transcript}
 
 -- What the plain function prints of a script is a transcript of it: the one in which no allocation
@@ -92,6 +109,82 @@ RunsInARow = (first second third : List (List ℕ)) (a b : ℕ) (i j k l m n : R
     → k.content ≡ Some made → AsksOfArchive second → RanTo second a k l
     → m.content ≡ l.content → AsksOfArchive third → RanTo third b m n
     → (image : Files) → Image n.content image → IsLeft first second third i k m image
+
+-- No slot is open, or the files stand for the archive that `init` makes at the first moment to come, by
+-- its first root.
+abbrev pub NoneOrNew : Config → Option Moments → Files → Type 0
+NoneOrNew config coming image = IsShutFile (image root_name) ⊎ ((born : ℕ)
+    × IsFirstMoment born coming × RecoversFirst (made_at config born) image)
+
+-- Each crash leaves no open slot.
+abbrev pub LeavesNone : Option Content → Type 0
+LeavesNone content = (image : Files) → Image content image → IsShutFile (image root_name)
+
+-- What is due where no slot is open: `no archive`, and then no crash leaves an open slot; or the disk
+-- failed, or memory ran out.
+abbrev pub NoneDue : DueRule
+NoneDue input i j status printed = (why : OpenRefusal)
+    × ((file : FileName) (at : ℕ) → why ≡ opening.Damaged file at → ⊥)
+    × (status ≡ refusal_status why) × (printed ≡ whole_line (refusal_line why))
+    × (why ≡ opening.NoArchive → LeavesNone j.content)
+
+-- How a job ends on the disk of an archive without a byte of a cache.
+abbrev pub EndsOn : Job → List ℕ → ℕ → Archive → Outcome → Option Content → Type 0
+EndsOn Deliver input at a = TakesTo Appends [] a (delivering (message_of input) at a)
+EndsOn (Remove number) input at a = TakesTo Appends [] a (removing number at a)
+EndsOn (Purge number) input at a = TakesTo Renews [] a (purging number at a)
+EndsOn (Edit number) input at a = TakesTo Renews [] a (editing number (message_of input) at a)
+EndsOn Reindex input at a = ReindexesTo [] a
+EndsOn Check input at a = ChecksTo [] a
+EndsOn other input at a = λ o new. ⊥
+
+-- What is due of the job on such a disk, or that memory ran out for its message.
+abbrev pub DueOn : Job → Archive → DueRule
+DueOn job a input i j status printed = ((o : Outcome) × (at : ℕ) × IsFirstMoment at i.coming
+    × EndsOn job input at a o j.content × (status ≡ status_of o)
+    × (printed ≡ whole_line (outcome_line o))) ⊎ ShortDue input i j status printed
+
+-- A run of which this is due ended, and this is the number of its status.
+abbrev pub EndedAsDue : DueRule → List (List ℕ) → ℕ → RunState → RunState → Type 0
+EndedAsDue due words code i j = (status : Status) × (code ≡ code_of status) × RanBy due words status i j
+
+module _ {D : Type 0} (g : Disk D) where
+  -- A run of words from one disk to another, by the clauses `ends` and `crash` of `run`.
+  pub record RanOn (words : List (List ℕ)) (code : ℕ) (i j : RunState) (old new : D) : Type 0 where
+    pub ends : RanTo words code i j
+    pub crash : WordsLeave g words old new i.left i.coming
+    pub before : i.content ≡ g.content old
+    pub after : j.content ≡ g.content new
+
+  -- No archive was found, and each crash since the start of the run leaves none, or the new one.
+  pub record FoundNone (config : Config) (coming : Option Moments) (words : List (List ℕ)) (code : ℕ)
+      (k l : RunState) (from next : D) : Type 0 where
+    pub ended : EndedAsDue NoneDue words code k l
+    pub crash : LeavesOnly g from next (NoneOrNew config coming)
+
+  -- The new archive was found, and the run ended as on its own disk. Each crash since its start leaves
+  -- none, or that archive, or what the job makes of it.
+  pub record FoundNew (config : Config) (coming : Option Moments) (words : List (List ℕ)) (job : Job)
+      (code : ℕ) (k l : RunState) (from next : D) : Type 0 where
+    pub born : ℕ
+    pub is_born : IsFirstMoment born coming
+    pub reads : ReadsWith [] (empty_archive (made_at config born)) k.content
+    pub ended : EndedAsDue (DueOn job (empty_archive (made_at config born))) words code k l
+    pub crash : LeavesOnly g from next (λ image. NoneOrNew config coming image ⊎ ((b : Archive)
+        × Goes words k (empty_archive (made_at config born)) b × Recovers image b))
+
+  -- Two runs on one disk that tells its content, of which each crash left no open slot: `init`, however
+  -- it ends, so also by a fault of the disk that leaves it in doubt; and a command, `reindex` or `check`.
+  -- The second one finds no archive where no slot is open as the files read, and otherwise the one that
+  -- `init` makes.
+  abbrev pub RunAfterInit : Type 0
+  RunAfterInit = (first second : List (List ℕ)) (config : Config) (job : Job) (a b : ℕ)
+      (i j k l : RunState) (old made from next : D) (c : Content)
+      → AsksFor first (Init config) → LeavesNone i.content → RanOn first a i j old made
+      → j.content ≡ Some c → k.content ≡ Some c
+      → AsksFor second job → IsOnArchive job → RanOn second b k l from next
+      → (IsShutFile (c root_name).seen × FoundNone config i.coming second b k l from next)
+      ⊎ FoundNew config i.coming second job b k l from next
 
 -- Words ask for at most one job, and for one or for none.
 abbrev pub OneJob : Type 0

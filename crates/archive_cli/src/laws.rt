@@ -1,7 +1,7 @@
 //! The laws of scripts, for all events, and of runs, for all words, inputs and faults.
 //! Pure.
 ghost use Rattle.archive_cli.specs.Jobs.{RunsOfJob};
-ghost use Rattle.archive_cli.specs.Laws.{OneJob, PlainIsTranscript, RunsInARow};
+ghost use Rattle.archive_cli.specs.Laws.{OneJob, PlainIsTranscript, RunAfterInit, RunsInARow};
 ghost use Rattle.archive_cli.specs.Promises.{NothingIsLost, RepliesAreDefined, NumbersNameOne, PurgeLeavesNothing, CrashLeavesAnAct, ReindexChangesNoReply};
 
 use arch_model::{law_of_commands, law_of_numbers, numbers_keep_their_texts};
@@ -35,6 +35,20 @@ pub fn runs_are_those_of_their_job()
 /// purged or edited, and no number ever names a second message.
 pub fn runs_in_a_row()
     ensures { RunsInARow }
+{
+    numbers_keep_their_texts();
+    law_of_numbers();
+    law_of_commands();
+}
+
+/// Shows what a run finds after an `init` in doubt, by the clauses `ends` and `crash` of `run` alone: no
+/// archive, or the one that `init` makes, and nothing else.
+///
+/// `init` ran on a disk of which each crash left no open slot, and ended in any way. What the next run,
+/// `deliver`, `remove`, `purge`, `edit`, `reindex` or `check`, answers and leaves is the definition's on
+/// whichever it found.
+pub fn run_after_init<D: Disk>(_disk: &D)
+    ensures { RunAfterInit D.Disk }
 {
     numbers_keep_their_texts();
     law_of_numbers();

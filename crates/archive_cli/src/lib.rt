@@ -17,7 +17,7 @@ mod texts;
 mod words;
 
 pub use laws::{
-    plain_is_transcript, runs_are_those_of_their_job, runs_in_a_row, six_promises,
+    plain_is_transcript, run_after_init, runs_are_those_of_their_job, runs_in_a_row, six_promises,
     words_ask_for_one_job,
 };
 pub use outcome::say_reply;

@@ -3,7 +3,7 @@
 use crate::absent::Absent;
 use crate::run_tests::{Due, bytes, numbers};
 use arch_base::{NoMemory, Numbers};
-use archive_cli::run;
+use archive_cli::{run, run_after_init};
 use disk_model::{Disk, FileKind, FileName, FuseDisk, MemDisk};
 use edge_io::{Clock, ClockFault, MemSink, MemSource};
 use std::alloc::Global;
@@ -599,4 +599,10 @@ fn failing_and_done(alloc: Global) -> Option<MemDisk> {
 #[test]
 fn an_output_and_a_clock_that_fail(rt: HostRuntime) {
     assert!(rt; failing_and_done(rt.alloc()).is_some());
+}
+
+/// What a run finds after an `init` in doubt is a law of a disk in memory, too.
+#[test]
+fn a_run_after_an_init_in_doubt_is_told_of_a_disk_in_memory(rt: HostRuntime) {
+    run_after_init(&empty(rt.alloc()));
 }
