@@ -5,7 +5,7 @@ ghost use Rattle.epoch_file.specs.declared.entry.Seen.{Seen};
 ghost use Rattle.store_finding.specs.Joined.{JoinedEntries, JoinsOne, OfJoined};
 
 use crate::making_tests::{MAP, ROOT, epoch, make};
-use arch_base::ObjectId;
+use arch_base::{Form, ObjectId};
 use arch_model::OpenRefusal;
 use disk_model::{Disk, DiskFault, FileKind, MemDisk};
 use epoch_file::{NewEntry, StoreRefusal};
@@ -50,9 +50,9 @@ pub(crate) struct Case {
 /// Returns the record of a number.
 fn record(number: u32, Line(epoch, text): &Line) -> Record {
     let blob = if *epoch == NONE {
-        ObjectId([0; 20])
+        ObjectId::Sha1([0; 20])
     } else {
-        blob_id(text)
+        blob_id(text, Form::Sha1)
     };
     Record {
         number,
@@ -93,9 +93,10 @@ fn write_epoch(
         let new = NewEntry {
             kind: *kind,
             text,
-            ids: text_ids(text),
+            ids: text_ids(text, Form::Sha1),
             moment: MOMENT,
             parent,
+            form: Form::Sha1,
         };
         let written = add_entry(alloc, disk, epoch(number, 1), end, &new)?;
         end = written.end;

@@ -6,7 +6,7 @@ ghost use Rattle.git_objects.specs.Objects.{blob_id_of};
 ghost use Rattle.mail_reader.specs.Ids.{own_id as own_id_in};
 ghost use Rattle.epoch_store.specs.Commands.{Accepts, StoreHasSizes};
 
-use arch_base::{Bytes, NoMemory, id_of_hex};
+use arch_base::{Bytes, Form, NoMemory, id_of_hex};
 use arch_model::TextRefusal;
 use archive_fixtures::{is_epoch_of, two_in_memory};
 use disk_model::{Disk, DiskFault, FileKind, FileName, FuseDisk, MemDisk};
@@ -86,7 +86,7 @@ fn is_apart(one: &StoredEntry, text: &[u8]) -> bool
     if id == one.seen.id.as_slice() {
         return false;
     }
-    if blob_id(text) == one.seen.blob {
+    if blob_id(text, Form::Sha1) == one.seen.blob {
         return false;
     }
     true
@@ -105,7 +105,7 @@ pub(crate) fn put<D: Disk>(
     if !accepts(store, text) {
         return Err(StoreRefusal::Damaged { file: ROOT, at: 0 });
     }
-    store.deliver_entry(alloc, disk, text, &text_ids(text), MOMENT)
+    store.deliver_entry(alloc, disk, text, &text_ids(text, Form::Sha1), MOMENT)
 }
 
 /// Makes an archive.
@@ -202,8 +202,8 @@ fn has_second_entry(store: &Store) -> bool {
     let Some(line) = store.entry(1) else {
         return false;
     };
-    let blob = Some(line.blob) == id_of_hex(SECOND_ID);
-    let commit = Some(line.commit) == id_of_hex(SECOND_COMMIT);
+    let blob = Some(line.blob) == id_of_hex(SECOND_ID, Form::Sha1);
+    let commit = Some(line.commit) == id_of_hex(SECOND_COMMIT, Form::Sha1);
     let place = store.place(1) == Some((FIRST_EPOCH, 316));
     let named = line.kind == EntryKind::Message && line.number == 2 && line.epoch == 0;
     let sized = line.secs == MOMENT && line.size == 103;
@@ -341,7 +341,7 @@ fn is_second_text<D: Disk>(
 fn is_damaged<D: Disk>(alloc: Global, disk: &mut D, store: &Store, index: u64) -> bool {
     match text_of(alloc, disk, store, index) {
         Err(TextRefusal::Damaged { named, found }) => {
-            let first = id_of_hex(FIRST_ID);
+            let first = id_of_hex(FIRST_ID, Form::Sha1);
             Some(named) == first && named != found
         }
         _ => false,

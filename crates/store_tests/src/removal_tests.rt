@@ -12,7 +12,7 @@ use crate::joining_tests::{
     Case, Entry, Line, ONE, Outcome, Placed, is_opened_so, opens_with, written,
 };
 use crate::making_tests::{FIRST_EPOCH, MAP, ROOT, SECOND_EPOCH, epoch, make, put};
-use arch_base::{Bytes, NoMemory, id_of_hex};
+use arch_base::{Bytes, Form, NoMemory, id_of_hex};
 use arch_model::{Command, OpenRefusal, TextRefusal};
 use archive_fixtures::{in_memory, is_epoch_of};
 use disk_model::{Disk, MemDisk};
@@ -39,7 +39,9 @@ fn is_message(one: &StoredEntry, number: u32, text: &[u8]) -> bool
     let Some(id) = own_id(text) else {
         return false;
     };
-    id == one.seen.id.as_slice() && blob_id(text) == one.seen.blob && one.number == number
+    id == one.seen.id.as_slice()
+        && blob_id(text, Form::Sha1) == one.seen.blob
+        && one.number == number
 }
 
 /// Returns whether an entry is a message.
@@ -79,7 +81,7 @@ pub(crate) fn remove_first<D: Disk>(
     if !may_end(store, 1, FIRST) {
         return Err(StoreRefusal::Damaged { file: ROOT, at: 3 });
     }
-    store.remove_entry(alloc, disk, 1, FIRST, &text_ids(FIRST), LATER)
+    store.remove_entry(alloc, disk, 1, FIRST, &text_ids(FIRST, Form::Sha1), LATER)
 }
 
 /// Makes an archive, appends the first message to it, and removes it.
@@ -100,7 +102,7 @@ fn has_removal(store: &Store, epoch: u32) -> bool {
         return false;
     };
     let named = line.kind == EntryKind::Deletion && line.number == 1 && line.epoch == epoch;
-    let blob = Some(line.blob) == id_of_hex(FIRST_ID);
+    let blob = Some(line.blob) == id_of_hex(FIRST_ID, Form::Sha1);
     let sized = line.secs == LATER && line.size == 103;
     named && blob && sized && store.entry(2).is_none() && store.next_number() == 2
 }
@@ -112,7 +114,7 @@ fn has_commit(store: &Store) -> bool {
         return false;
     };
     let place = store.place(1) == Some((FIRST_EPOCH, 316));
-    place && Some(line.commit) == id_of_hex(REMOVAL_COMMIT)
+    place && Some(line.commit) == id_of_hex(REMOVAL_COMMIT, Form::Sha1)
 }
 
 /// Removes a message whose epoch takes one more entry, and returns whether the removal is that, and
