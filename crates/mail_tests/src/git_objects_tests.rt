@@ -1,5 +1,5 @@
 //! Tests of ids and spellings against git, and of bytes that spell nothing.
-use arch_base::{Bytes, NoMemory, ObjectId, id_of_hex};
+use arch_base::{Bytes, Form, NoMemory, ObjectId, id_of_hex};
 use git_objects::{
     Commit, EntryKind, Object, blob_id, commit_bytes, committed_at, object_id, read_commit,
     read_object, tree_bytes,
@@ -14,41 +14,52 @@ const FIRST: &[u8] = b"76063a3a91ab738c9e5856b47d2659e12609e101";
 
 /// Returns whether an id has these hexadecimal digits.
 fn has_digits(id: &ObjectId, digits: &[u8]) -> bool {
-    Some(*id) == id_of_hex(digits)
+    Some(*id) == id_of_hex(digits, id.form())
 }
 
 #[test]
 fn blobs_have_the_ids_of_git(rt: HostRuntime) {
     let empty = b"e69de29bb2d1d6434b8b29ae775ad8c2e48c5391";
-    assert!(rt; has_digits(&blob_id(b"hello\n"), BLOB));
-    assert!(rt; has_digits(&blob_id(b""), empty));
+    assert!(rt; has_digits(&blob_id(b"hello\n", Form::Sha1), BLOB));
+    assert!(rt; has_digits(&blob_id(b"", Form::Sha1), empty));
+}
+
+#[test]
+fn blobs_have_the_ids_of_git_in_sha_256(rt: HostRuntime) {
+    let empty = b"473a0f4c3be8a93681a267e3b1e9a7dcda1185436fe141f7749120a303721813";
+    let hello = b"2cf8d83d9ee29543b34a87727421fdecb7e3f3a183d337639025de576db9ebb4";
+    assert!(rt; has_digits(&blob_id(b"hello\n", Form::Sha256), hello));
+    assert!(rt; has_digits(&blob_id(b"", Form::Sha256), empty));
+}
+
+/// Returns the id of the tree of an entry with a blob.
+fn tree_id(kind: EntryKind, blob: &ObjectId) -> ObjectId {
+    object_id(tree_bytes(kind, blob).as_slice(), blob.form())
 }
 
 #[test]
 fn trees_have_the_ids_of_git(rt: HostRuntime) {
     let deletion = b"087bd2d5b1a1d0198d0588d026926acab77d3921";
-    let blob = blob_id(b"hello\n");
-    assert!(rt; has_digits(&object_id(&tree_bytes(EntryKind::Message, &blob)), TREE));
-    assert!(rt;
-        has_digits(
-            &object_id(&tree_bytes(EntryKind::Deletion, &blob)),
-            deletion
-        )
-    );
+    let blob = blob_id(b"hello\n", Form::Sha1);
+    assert!(rt; has_digits(&tree_id(EntryKind::Message, &blob), TREE));
+    assert!(rt; has_digits(&tree_id(EntryKind::Deletion, &blob), deletion));
 }
 
 /// Returns whether bytes start with the blob of a content whose spelling has `taken` bytes.
 fn begins_with_blob(bytes: &[u8], wanted: &[u8], taken: usize) -> bool {
-    match read_object(bytes) {
+    match read_object(bytes, Form::Sha1) {
         Some((Object::Blob(content), len)) => content == wanted && len == taken,
         _ => false,
     }
 }
 
-/// Returns whether the spelling of a deletion's tree is read as that tree, all of it.
-fn reads_deletion_again(blob: &ObjectId) -> bool {
-    match read_object(&tree_bytes(EntryKind::Deletion, blob)) {
-        Some((Object::Tree { kind, id }, 37)) => kind == EntryKind::Deletion && id == *blob,
+/// Returns whether the spelling of a deletion's tree, of so many bytes, is read as that tree.
+fn reads_deletion_again(blob: &ObjectId, size: usize) -> bool {
+    let tree = tree_bytes(EntryKind::Deletion, blob);
+    match read_object(tree.as_slice(), blob.form()) {
+        Some((Object::Tree { kind, id }, len)) => {
+            len == size && kind == EntryKind::Deletion && id == *blob
+        }
         _ => false,
     }
 }
@@ -56,7 +67,8 @@ fn reads_deletion_again(blob: &ObjectId) -> bool {
 #[test]
 fn objects_are_read(rt: HostRuntime) {
     assert!(rt; begins_with_blob(b"blob 6\0hello\ntree", b"hello\n", 13));
-    assert!(rt; reads_deletion_again(&blob_id(b"hello\n")));
+    assert!(rt; reads_deletion_again(&blob_id(b"hello\n", Form::Sha1), 37));
+    assert!(rt; reads_deletion_again(&blob_id(b"hello\n", Form::Sha256), 49));
 }
 
 /// Bytes that spell no object.
@@ -76,7 +88,7 @@ const OTHER_OBJECTS: [&[u8]; 10] = [
 #[test]
 fn other_bytes_are_no_object(rt: HostRuntime) {
     for bytes in &OTHER_OBJECTS {
-        assert!(rt; read_object(bytes).is_none());
+        assert!(rt; read_object(bytes, Form::Sha1).is_none());
     }
 }
 
@@ -96,24 +108,25 @@ struct Row<'a> {
 
 /// Returns whether a content is read as the row's fields, and their spelling has the id of git.
 fn agrees(alloc: Global, row: &Row<'_>) -> Result<bool, NoMemory> {
-    let Some(commit) = read_commit(alloc, row.content)? else {
+    let Some(commit) = read_commit(alloc, row.content, Form::Sha1)? else {
         return Ok(false);
     };
     if !has_fields(&commit, row) {
         return Ok(false);
     }
     let spelling = commit_bytes(alloc, &commit)?;
-    Ok(Some(object_id(spelling.as_slice())) == id_of_hex(row.id))
+    let id = object_id(spelling.as_slice(), Form::Sha1);
+    Ok(has_digits(&id, row.id))
 }
 
 /// Returns the id of the parent of a row's commit.
 fn parent_of(row: &Row<'_>) -> Option<ObjectId> {
-    id_of_hex(row.parent?)
+    id_of_hex(row.parent?, Form::Sha1)
 }
 
 /// Returns whether a commit has the fields of a row.
 fn has_fields(commit: &Commit, row: &Row<'_>) -> bool {
-    Some(commit.tree) == id_of_hex(TREE)
+    has_digits(&commit.tree, TREE)
         && commit.parent == parent_of(row)
         && commit.author.as_slice() == row.author
         && commit.email.as_slice() == row.email
@@ -226,5 +239,9 @@ fn is_commit(alloc: Global, rest: &[u8]) -> Option<bool> {
         .push_slice(b"tree ff904aaaf3647f5d5e49c759a67194e6c0ea3fa7\n")
         .ok()?;
     content.push_slice(rest).ok()?;
-    Some(read_commit(alloc, content.as_slice()).ok()?.is_some())
+    Some(
+        read_commit(alloc, content.as_slice(), Form::Sha1)
+            .ok()?
+            .is_some(),
+    )
 }

@@ -1,5 +1,6 @@
 //! Rows against the rules.
 use crate::row_cases::{ARRIVED, CASES, RowCase};
+use arch_base::Form;
 use git_objects::blob_id;
 use mail_commits::text_ids;
 use mail_reader::{content_id, is_stored};
@@ -11,7 +12,13 @@ fn has_row(alloc: Global, case: &RowCase) -> bool {
     if !is_stored(case.text) {
         return false;
     }
-    match row_of(alloc, 7, &text_ids(case.text), case.text, ARRIVED) {
+    match row_of(
+        alloc,
+        7,
+        &text_ids(case.text, Form::Sha1),
+        case.text,
+        ARRIVED,
+    ) {
         Ok(row) => row.number == 7 && case.is_shown_by(&row),
         Err(_) => false,
     }
@@ -22,8 +29,15 @@ fn has_ids(alloc: Global, case: &RowCase) -> bool {
     if !is_stored(case.text) {
         return false;
     }
-    match row_of(alloc, 7, &text_ids(case.text), case.text, ARRIVED) {
-        Ok(row) => row.blob == blob_id(case.text) && row.content == content_id(case.text),
+    match row_of(
+        alloc,
+        7,
+        &text_ids(case.text, Form::Sha1),
+        case.text,
+        ARRIVED,
+    ) {
+        Ok(row) => row.blob == blob_id(case.text, Form::Sha1)
+            && row.content == content_id(case.text),
         Err(_) => false,
     }
 }
