@@ -6,6 +6,7 @@ use Rattle.std.proofs.lemmas.Slice.Eq.{bytes_eq-Decides}
 use Rattle.arch_base.specs.declared.ids.ObjectId.{ObjectId}
 use Rattle.arch_base.specs.declared.ids.ObjectId.TheVariants.{Sha1, Sha256}
 use Rattle.arch_base.specs.contracts.ids.ObjectIdOrd.TheImpl as order
+use Rattle.arch_base.specs.contracts.ids.ObjectIdPartialEq.TheImpl as equality
 use Rattle.arch_base.specs.Ids.{id_cmp, id_eq, id_bytes}
 
 -- Ids are equal exactly where `id_eq` says so.
@@ -27,6 +28,13 @@ id_eq-flip a b = by (id_eq a b) (id_eq b a) refl refl where
   by false false p q = refl
   by true false p q = sym (id_eq-refl b a (sym ((id_eq-Decides a b).0 p))) ∙ q
   by false true p q = sym p ∙ id_eq-refl a b (sym ((id_eq-Decides b a).0 q))
+
+-- The derived equality of ids is that of the specifications.
+pub same_ids : (a b : ObjectId) → equality.ghosts.eq a b ≡ id_eq a b
+same_ids (Sha1 x) (Sha1 y) = refl
+same_ids (Sha1 x) (Sha256 y) = refl
+same_ids (Sha256 x) (Sha1 y) = refl
+same_ids (Sha256 x) (Sha256 y) = refl
 
 derived_ids : (a b : ObjectId) → order.ghosts.cmp a b ≡ id_cmp a b
 derived_ids (Sha1 x) (Sha1 y) = refl

@@ -2,6 +2,7 @@
 //! Pure.
 ghost use Rattle.std.specs.Prelude.{◌≡◌};
 
+use crate::ids::Form;
 use crate::name::Name;
 
 /// The settings that an archive is created with.
@@ -22,6 +23,8 @@ pub struct Config {
     pub mirror: bool,
     /// When the archive was created, in seconds since 1970 UTC: 1 to 4,294,967,295.
     pub born: u32,
+    /// Which hash names the objects of the archive.
+    pub form: Form,
 }
 
 impl Config {
@@ -36,6 +39,7 @@ impl Config {
             max: self.max,
             mirror: self.mirror,
             born: self.born,
+            form: self.form,
         }
     }
 }

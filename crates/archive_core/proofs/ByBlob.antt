@@ -6,7 +6,7 @@ use Rattle.arch_base.specs.declared.ids.ObjectId.{ObjectId}
 use Rattle.arch_base.specs.declared.ids.Form.TheVariants as form
 use Rattle.arch_base.specs.Ids.{id_eq}
 use Rattle.arch_base.specs.contracts.ids.ObjectIdPartialEq.TheImpl as code
-use Rattle.arch_base.proofs.IdOrder.{id_eq-Decides}
+use Rattle.arch_base.proofs.IdOrder.{id_eq-Decides, same_ids}
 use Rattle.git_objects.specs.Objects.{blob_id_of}
 use Rattle.arch_model.specs.Archives.{Entry, Archive, is_message, messages, text_of, blob_number}
 use Rattle.arch_model.specs.Shelves.{blob_text, GivesBlobIn}
@@ -18,7 +18,6 @@ use Rattle.store_finding.specs.declared.entries.StoredEntry.{StoredEntry}
 use Rattle.epoch_store.specs.Reads.{GivesTextOf, line_if, line_of, text_if}
 use Rattle.store_finding.specs.Kept.{StoreState, KeepsArchive}
 use Rattle.archive_core.specs.Numbers.{IsMessageAt, HasBlobAt, IsBlobIndex}
-use Rattle.store_finding.proofs.SameIds.{same_ids}
 use Rattle.archive_core.proofs.Stored.{kept-at, message-at}
 
 -- The text of a blob id has it.

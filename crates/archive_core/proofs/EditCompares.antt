@@ -8,7 +8,7 @@ use Rattle.arch_base.specs.declared.ids.ObjectId.{ObjectId}
 use Rattle.arch_base.specs.declared.ids.Form.TheVariants as form
 use Rattle.arch_base.specs.Ids.{id_eq}
 use Rattle.arch_base.specs.contracts.ids.ObjectIdPartialEq.TheImpl as code
-use Rattle.arch_base.proofs.IdOrder.{id_eq-Decides}
+use Rattle.arch_base.proofs.IdOrder.{id_eq-Decides, same_ids}
 use Rattle.git_objects.specs.Objects.{blob_id_of}
 use Rattle.mail_reader.specs.declared.storing.StoredRefusal.{StoredRefusal}
 use Rattle.arch_model.specs.Archives.{Archive, live, text_of}
@@ -22,7 +22,6 @@ use Rattle.store_finding.specs.Kept.{StoreState, KeepsArchive}
 use Rattle.archive_core.specs.Commands.{unread_answer}
 use Rattle.archive_core.specs.Numbers.{IsLiveAt}
 use Rattle.archive_core.specs.Rewriting.{ComparesForm}
-use Rattle.store_finding.proofs.SameIds.{same_ids}
 use Rattle.archive_core.proofs.ByBlob.{message-of}
 use Rattle.archive_core.proofs.ByNumber.{entry-text, text-gives}
 

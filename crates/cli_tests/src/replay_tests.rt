@@ -4,7 +4,7 @@ ghost use Rattle.std.specs.Prelude.{◌≤◌, IfSome};
 ghost use Rattle.arch_base.specs.Configs.{IsConfig};
 
 use crate::run_tests::{Due, WORKED, numbers, ran};
-use arch_base::{Config, Name, Numbers};
+use arch_base::{Config, Form, Name, Numbers};
 use archive_cli::play_script;
 use archive_core::Engine;
 use disk_model::MemDisk;
@@ -26,6 +26,7 @@ fn settings(limit: u64, max: u32) -> Option<Config>
         max,
         mirror: false,
         born: 1,
+        form: Form::Sha1,
     })
 }
 

@@ -2,7 +2,7 @@
 ghost use Rattle.root_slots.specs.Valid.{IsRoot};
 
 use crate::roots::{ROOT, body_of, is_same, put, root_of, sample, slot_read, write};
-use arch_base::{Config, Name, Numbers};
+use arch_base::{Config, Form, Name, Numbers};
 use disk_model::{Disk, DiskFault, FuseDisk, MemDisk};
 use root_slots::{Place, Root, RootRefusal, Slot, begin, law_of_spellings};
 use std::alloc::Global;
@@ -29,6 +29,7 @@ fn made() -> Option<Root> {
             max: 7,
             mirror: true,
             born: 1_706_781_700,
+            form: Form::Sha1,
         },
         sequence: 1,
         next: 3,

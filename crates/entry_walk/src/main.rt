@@ -11,7 +11,7 @@
 ghost use Rattle.std.specs.Prelude.{◌<◌, ◌≤◌, length, IfSome};
 
 use answer_lines::say_answer;
-use arch_base::{Bytes, Config, Name, NoMemory, Numbers, decimal, read_decimal};
+use arch_base::{Bytes, Config, Form, Name, NoMemory, Numbers, decimal, read_decimal};
 use arch_model::Command;
 use disk_model::EPOCHS;
 use edge_io::MemSink;
@@ -46,6 +46,7 @@ fn begun(alloc: Global, input: &[u8]) -> Option<(MemArchive, &[u8])> {
         max: 2_147_483_647,
         mirror: false,
         born: 1,
+        form: Form::Sha1,
     };
     Some((MemArchive::new(alloc, config), rest))
 }

@@ -4,10 +4,8 @@ use Rattle.std.proofs.Common.{◌∙◌, sym, ap, subst, arith, length-append, l
 use Rattle.std.proofs.lemmas.List.{append_assoc, append-nil, drop_all}
 use Rattle.arch_base.specs.declared.ids.Form.{Form}
 use Rattle.arch_base.specs.declared.ids.ObjectId.{ObjectId}
-use Rattle.arch_base.specs.declared.ids.ObjectId.TheVariants.{Sha1, Sha256}
 use Rattle.arch_base.specs.contracts.ids.ObjectIdPartialEq.TheImpl as code
-use Rattle.arch_base.specs.Ids.{id_eq}
-use Rattle.arch_base.proofs.IdOrder.{id_eq-Decides, id_eq-refl}
+use Rattle.arch_base.proofs.IdOrder.{id_eq-Decides, id_eq-refl, same_ids}
 use Rattle.disk_model.specs.BigEndian.{front_is, rest_is}
 use Rattle.disk_model.specs.declared.name.FileName.{FileName}
 use Rattle.disk_model.specs.declared.name.FileKind.TheVariants.{Epoch}
@@ -294,22 +292,15 @@ commits_other form file seen parent n before after k read room other =
           other (ap (blob_id_of form) same ∙ blob),
     )) read
 
--- The code compares ids as the definitions do.
-eq_ids : (a b : ObjectId) → code.ghosts.eq a b ≡ id_eq a b
-eq_ids (Sha1 x) (Sha1 y) = refl
-eq_ids (Sha1 x) (Sha256 y) = refl
-eq_ids (Sha256 x) (Sha1 y) = refl
-eq_ids (Sha256 x) (Sha256 y) = refl
-
 -- Two ids differ if the code says so, and otherwise are the same.
 pub ids_differ : (a b : ObjectId) (t : Bool) → t ≡ not (code.ghosts.eq a b) → t ≡ true → a ≡ b → ⊥
 ids_differ a b t is differ same =
-    let equal : code.ghosts.eq a b ≡ true = eq_ids a b ∙ id_eq-refl a b same in
+    let equal : code.ghosts.eq a b ≡ true = same_ids a b ∙ id_eq-refl a b same in
     let wrong : false ≡ true = ap not (sym equal) ∙ (sym is ∙ differ) in
     cc
 
 pub ids_same : (a b : ObjectId) (t : Bool) → t ≡ not (code.ghosts.eq a b) → t ≡ false → a ≡ b
-ids_same a b t is same = (id_eq-Decides a b).0 (sym (eq_ids a b) ∙ not_false (code.ghosts.eq a b) (sym is ∙ same)) where
+ids_same a b t is same = (id_eq-Decides a b).0 (sym (same_ids a b) ∙ not_false (code.ghosts.eq a b) (sym is ∙ same)) where
   not_false : (d : Bool) → not d ≡ false → d ≡ true
   not_false true e = refl
   not_false false e = absurd (let wrong : true ≡ false = e in cc)

@@ -3,7 +3,7 @@
 ghost use Rattle.std.specs.Prelude.{◌≡◌, ◌≤◌, true};
 ghost use Rattle.arch_base.specs.Configs.{IsConfig};
 
-use arch_base::{Config, Name, Numbers};
+use arch_base::{Config, Form, Name, Numbers};
 use arch_model::{Answer, Command, Keep, Next, Shelf};
 use edge_io::MemSink;
 use imap_commands::answer;
@@ -30,6 +30,7 @@ fn config(name: Name, slice: u32) -> Config
         max: 2_147_483_647,
         mirror: false,
         born: 1,
+        form: Form::Sha1,
     }
 }
 

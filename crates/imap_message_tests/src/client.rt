@@ -3,7 +3,7 @@
 ghost use Rattle.std.specs.Prelude.{◌≡◌, ◌≤◌, ◌<◌, ◌+◌, IfSome, true};
 ghost use Rattle.arch_base.specs.Configs.{IsConfig};
 
-use arch_base::{Bytes, Config, Name, Numbers};
+use arch_base::{Bytes, Config, Form, Name, Numbers};
 use arch_model::{Answer, Command, Keep, Next, Shelf};
 use edge_io::MemSink;
 use imap_messages::{FetchCommand, Numbering, SearchCommand, say_fetch, say_search};
@@ -36,6 +36,7 @@ fn config(name: Name) -> Config
         max: 2_147_483_647,
         mirror: false,
         born: 1_706_780_000,
+        form: Form::Sha1,
     }
 }
 

@@ -2,7 +2,7 @@
 ghost use Rattle.std.specs.Prelude.{IfSome};
 ghost use Rattle.arch_base.specs.Configs.{IsConfig};
 
-use arch_base::{Bytes, Config, Name, Numbers};
+use arch_base::{Bytes, Config, Form, Name, Numbers};
 use arch_model::{Answer, Command, Keep, Next};
 use edge_io::MemSink;
 use imap_states::{
@@ -25,6 +25,7 @@ fn config(name: Name) -> Config
         max: 2_147_483_647,
         mirror: false,
         born: 7,
+        form: Form::Sha1,
     }
 }
 

@@ -98,9 +98,9 @@ pub fn print_page(secs: u64) -> [u8; 16]
 }
 
 /// Returns the day as `YYYY-MM-DD` and the time as `hh:mm`, with a byte between them.
-fn minute_of_day(date: &CivilDate, crash_between: u8) -> [u8; 16]
+fn minute_of_day(date: &CivilDate, separator: u8) -> [u8; 16]
     requires { IsValid date.now }
-    ensures { result ≡ day_text date.now ++ (crash_between ∷ minute_text date.now) }
+    ensures { result ≡ day_text date.now ++ (separator ∷ minute_text date.now) }
 {
     let (century, year) = ((date.year / 100) as u8, (date.year % 100) as u8);
     [
@@ -114,7 +114,7 @@ fn minute_of_day(date: &CivilDate, crash_between: u8) -> [u8; 16]
         b'-',
         b'0' + date.day / 10,
         b'0' + date.day % 10,
-        crash_between,
+        separator,
         b'0' + date.hour / 10,
         b'0' + date.hour % 10,
         b':',

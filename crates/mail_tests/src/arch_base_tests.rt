@@ -152,6 +152,7 @@ fn copies_settings(name: Name) -> bool {
         max: 2,
         mirror: false,
         born: 1,
+        form: Form::Sha1,
     };
     let same = config.copy();
     same.name.as_slice() == b"list".as_slice() && same.limit == 316 && same.max == 2 && !same.mirror

@@ -10,7 +10,7 @@
 ghost use Rattle.std.specs.Prelude.{◌≤◌};
 ghost use Rattle.arch_base.specs.Moments.{last_moment};
 
-use arch_base::{Bytes, Config, LAST_MOMENT, Name, Numbers, read_decimal};
+use arch_base::{Bytes, Config, Form, LAST_MOMENT, Name, Numbers, read_decimal};
 use arch_model::Next;
 use control_door::Session;
 use edge_io::{MemSink, Script, Sink, Source, SourceFault, script};
@@ -81,6 +81,7 @@ fn empty(alloc: Global) -> Option<MemArchive> {
         max: 2_147_483_647,
         mirror: false,
         born: 1_706_780_000,
+        form: Form::Sha1,
     };
     Some(MemArchive::new(alloc, config))
 }

@@ -7,7 +7,7 @@ ghost use Rattle.root_change.specs.Texts.{HasSizes};
 ghost use Rattle.root_change.specs.Rewriting.{MapFits, MayCarryAll};
 ghost use Rattle.rewrite_tests.specs.Bare.{IsBare, IsFirstPlan};
 
-use arch_base::{Config, Name, NoMemory};
+use arch_base::{Config, Form, Name, NoMemory};
 use disk_model::{Disk, DiskFault, EPOCHS, FileKind, FileName};
 use fixtures::empty_disk;
 use root_change::{FileRange, PartPlan, RewriteRefusal, Source, Target, rewrite};
@@ -87,6 +87,7 @@ fn settings() -> Option<Config>
         max: 9,
         mirror: false,
         born: 1,
+        form: Form::Sha1,
     })
 }
 

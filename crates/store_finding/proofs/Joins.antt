@@ -11,7 +11,7 @@ use Rattle.arch_base.specs.declared.ids.ObjectId.{ObjectId}
 use Rattle.arch_base.specs.declared.ids.Form.TheVariants as form
 use Rattle.arch_base.specs.Ids.{id_eq}
 use Rattle.arch_base.specs.contracts.ids.ObjectIdPartialEq.TheImpl as code
-use Rattle.arch_base.proofs.IdOrder.{id_eq-Decides, id_eq-refl}
+use Rattle.arch_base.proofs.IdOrder.{id_eq-Decides, id_eq-refl, same_ids}
 use Rattle.git_objects.specs.Objects.{blob_id_of}
 use Rattle.git_objects.specs.declared.entry_kind.EntryKind.{EntryKind}
 use Rattle.git_objects.specs.declared.entry_kind.EntryKind.TheVariants.{Message, Deletion}
@@ -46,7 +46,6 @@ use Rattle.store_finding.proofs.Growing.{stored_more}
 use Rattle.store_finding.proofs.Indexes.{index_held}
 use Rattle.store_finding.proofs.Lasts.{none_in, last_commit_is}
 use Rattle.store_finding.proofs.TextBytes.{divided_reads, epoch_text, in_fronts, in_epoch_split}
-use Rattle.store_finding.proofs.SameIds.{same_ids}
 use Rattle.store_finding.proofs.Live.{own_of, there, Apart, kept_count, apart_by, owner_all, owner_text, found_owner, lone_text, Ascends, live_ascends, messages_ascend, bytes_same, bytes_yes}
 use Rattle.store_finding.proofs.Firsts.{FitsKind, with_record, all_last, delivered_joined, first_is, first_none, first_more, first_less, fits_last, blobs_last, record_after, map_after, stored_before}
 

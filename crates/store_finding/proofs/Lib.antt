@@ -15,7 +15,6 @@ pub mod FrontParts
 mod ReadUpTo
 mod Recorded
 mod Recovered
-pub mod SameIds
 pub mod TextBytes
 pub mod Undamaged
 mod UniqueEntries

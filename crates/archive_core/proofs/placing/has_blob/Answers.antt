@@ -3,8 +3,7 @@ use Rattle.std.specs.Prelude.{Option}
 use Rattle.std.proofs.lemmas.Option.{slice_get_read}
 use Rattle.store_finding.specs.declared.entries.StoredEntry.{StoredEntry}
 use Rattle.archive_core.specs.Placing.{found_blob}
-use Rattle.arch_base.proofs.IdOrder.{id_eq-flip}
-use Rattle.store_finding.proofs.SameIds.{same_ids}
+use Rattle.arch_base.proofs.IdOrder.{id_eq-flip, same_ids}
 use Rattle.archive_core.proofs.placing.has_blob.Goals as goal
 
 pub returns-in-Some : goal.returns-in-Some

@@ -2,7 +2,7 @@
 use Rattle.std.proofs.Common.{◌≡◌, ◌∙◌, Err, sym, subst, true, false}
 use Rattle.arch_base.specs.Ids.{id_eq}
 use Rattle.epoch_file.specs.declared.refusal.StoreRefusal.{StoreRefusal}
-use Rattle.store_finding.proofs.SameIds.{same_ids}
+use Rattle.arch_base.proofs.IdOrder.{same_ids}
 use Rattle.store_planning.specs.DamagedTexts.{DamageBy, IsDamageOf}
 use Rattle.store_planning.specs.Planning.{PlansNext}
 use Rattle.store_planning.proofs.Losing.{kept_changes, left_changes}
