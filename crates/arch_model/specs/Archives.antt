@@ -4,7 +4,7 @@ use Rattle.std.specs.Str.{bytes_eq}
 use Rattle.std.specs.List.{filter}
 use Rattle.arch_base.specs.declared.config.Config.{Config}
 use Rattle.arch_base.specs.Ids.{id_eq}
-use Rattle.arch_base.specs.declared.ids.Form.TheVariants as form
+use Rattle.arch_base.specs.declared.ids.Form.{Form}
 use Rattle.arch_base.specs.declared.ids.ObjectId.{ObjectId}
 use Rattle.git_objects.specs.Objects.{blob_id_of}
 use Rattle.git_objects.specs.declared.entry_kind.EntryKind.{EntryKind}
@@ -110,11 +110,11 @@ owner (e ∷ es) id = if is_id id (own_id e.text) then Some e else owner es id
 abbrev pub IsFree : List Entry → List ℕ → Type 0
 IsFree entries text = (id : List ℕ) × (own_id text ≡ Some id) × (owner entries id ≡ None)
 
--- The number of the first entry with a blob id.
-abbrev pub blob_number : List Entry → ObjectId → Option ℕ
-blob_number [] blob = None
-blob_number (e ∷ es) blob =
-    if id_eq blob (blob_id_of form.Sha1 e.text) then Some e.number else blob_number es blob
+-- The number of the first entry with a blob id of a form.
+abbrev pub blob_number : Form → List Entry → ObjectId → Option ℕ
+blob_number form [] blob = None
+blob_number form (e ∷ es) blob =
+    if id_eq blob (blob_id_of form e.text) then Some e.number else blob_number form es blob
 
 -- The entries of an epoch, in order.
 abbrev pub in_epoch : List Entry → ℕ → List Entry

@@ -2,7 +2,7 @@
 use Rattle.std.specs.Prelude.{◌≡◌, ◌+◌, ℕ, Bool, true, false, not, ◌&&◌, ◌||◌, ◌==◌, nat_lt, List, [], ◌∷◌, ◌++◌, length, codes, decimal, Option, Some, None, Result, Ok, Err, if◌then◌else◌}
 use Rattle.std.specs.Str.{bytes_eq}
 use Rattle.arch_base.specs.Ids.{id_bytes, id_eq}
-use Rattle.arch_base.specs.declared.ids.Form.TheVariants as form
+use Rattle.arch_base.specs.declared.ids.Form.{Form}
 use Rattle.hex.specs.Hex.{encode_lower}
 use Rattle.mail_reader.specs.Stored.{stored}
 use Rattle.mail_reader.specs.declared.storing.StoredRefusal.{StoredRefusal}
@@ -40,19 +40,19 @@ takes_more limit epoch len = epoch == greatest_epoch || nat_lt len limit
 -- (public-inbox-v2-format, "GIT EPOCHS").
 abbrev pub new_epoch : Archive → ℕ
 new_epoch a =
-    if takes_more a.config.limit (last_epoch a.entries) (length (epoch_bytes (in_epoch a.entries
-    (last_epoch a.entries)))) then last_epoch a.entries
+    if takes_more a.config.limit (last_epoch a.entries) (length (epoch_bytes a.config.form
+    (in_epoch a.entries (last_epoch a.entries)))) then last_epoch a.entries
     else last_epoch a.entries + 1
 
--- The entry has the blob id of the text, and another text.
-abbrev pub clashes : List ℕ → Entry → Bool
-clashes text e = id_eq (blob_id_of form.Sha1 text) (blob_id_of form.Sha1 e.text) && not (bytes_eq text e.text)
+-- The entry has the blob id of the text in a form, and another text.
+abbrev pub clashes : Form → List ℕ → Entry → Bool
+clashes form text e = id_eq (blob_id_of form text) (blob_id_of form e.text) && not (bytes_eq text e.text)
 
--- The number of the first entry with the blob id of the text and another text, if there is one. It
--- may be live or not, and is the least such number, since a deletion comes after its message.
-abbrev pub collision : List Entry → List ℕ → Option ℕ
-collision [] text = None
-collision (e ∷ es) text = if clashes text e then Some e.number else collision es text
+-- The number of the first entry with the blob id of the text in a form, and another text, if there is
+-- one. It may be live or not, and is the least such number, since a deletion comes after its message.
+abbrev pub collision : Form → List Entry → List ℕ → Option ℕ
+collision form [] text = None
+collision form (e ∷ es) text = if clashes form text e then Some e.number else collision form es text
 
 -- An archive, and the answer that comes with it.
 pub record Done : Type 0 where
@@ -69,7 +69,7 @@ delivered_new a text moment =
     if nat_lt a.config.max a.next then refused a (answer.Full a.config.max)
     else record {
       archive = with_entry a (new_epoch a) text moment;
-      answer = answer.Ok a.next (blob_id_of form.Sha1 text);
+      answer = answer.Ok a.next (blob_id_of a.config.form text);
     }
 
 -- The text is delivered, unless another text has its blob id.
@@ -80,7 +80,7 @@ delivered_kept a text moment None = delivered_new a text moment
 -- What the candidate ids decided is carried out.
 abbrev pub delivered_choice : Archive → ℕ → Choice → Done
 delivered_choice a moment (Repeat number) = refused a (answer.Duplicate number)
-delivered_choice a moment (Take text) = delivered_kept a text moment (collision a.entries text)
+delivered_choice a moment (Take text) = delivered_kept a text moment (collision a.config.form a.entries text)
 
 -- The storage form of the bytes is delivered, or there is none and the message is refused.
 abbrev pub delivered_form : Archive → ℕ → Result (List ℕ) StoredRefusal → Done
@@ -99,7 +99,7 @@ abbrev pub removed_text : Archive → ℕ → ℕ → Option (List ℕ) → Done
 removed_text a number moment None = refused a (answer.NotLive number)
 removed_text a number moment (Some text) = record {
   archive = with_deletion a number (new_epoch a) text moment;
-  answer = answer.Ok number (blob_id_of form.Sha1 text);
+  answer = answer.Ok number (blob_id_of a.config.form text);
 }
 
 -- The removal of a number at a moment. A mirror takes none. A removal writes one more entry, and
@@ -114,7 +114,7 @@ abbrev pub purged_text : Archive → ℕ → Option (List ℕ) → Done
 purged_text a number None = refused a (answer.NoText number)
 purged_text a number (Some text) = record {
   archive = without_entries a text;
-  answer = answer.Ok number (blob_id_of form.Sha1 text);
+  answer = answer.Ok number (blob_id_of a.config.form text);
 }
 
 -- The purge of a number. A mirror takes none. It drops each entry with the text of the number's
@@ -135,7 +135,7 @@ unless_refused a done = if is_accepted done.answer then done else refused a done
 
 -- The storage form of bytes is this text.
 abbrev pub is_form : List ℕ → Result (List ℕ) StoredRefusal → Bool
-is_form text (Ok form) = bytes_eq form text
+is_form text (Ok kept) = bytes_eq kept text
 is_form text (Err why) = false
 
 -- The live message with this text is purged and the bytes are delivered on the archive without it, as

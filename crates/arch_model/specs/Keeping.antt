@@ -2,7 +2,7 @@
 use Rattle.std.specs.Prelude.{◌≡◌, ◌⊎◌, ◌≤◌, ℕ, Bool, true, false, List, [], ◌∷◌, Option, Some, None, is_some, Result, Ok, Err}
 use Rattle.std.specs.List.{Contains}
 use Rattle.arch_base.specs.Counts.{Rose}
-use Rattle.arch_base.specs.declared.ids.Form.TheVariants as form
+use Rattle.arch_base.specs.declared.ids.Form.{Form}
 use Rattle.mail_reader.specs.Stored.{stored}
 use Rattle.mail_reader.specs.declared.storing.StoredRefusal.{StoredRefusal}
 use Rattle.git_objects.specs.Objects.{blob_id_of}
@@ -246,14 +246,14 @@ opening_answer (opening.Damaged file at) = answer.Damaged file at
 opening_answer opening.DiskFault = answer.DiskFault
 opening_answer opening.NoMemory = answer.NoMemory
 
--- An entry has the blob id of a text that a choice keeps.
-abbrev pub keeps_known : List Entry → Choice → Bool
-keeps_known entries (Take text) = is_some (blob_number entries (blob_id_of form.Sha1 text))
-keeps_known entries (Repeat number) = false
+-- An entry has the blob id, in a form, of a text that a choice keeps.
+abbrev pub keeps_known : Form → List Entry → Choice → Bool
+keeps_known form entries (Take text) = is_some (blob_number form entries (blob_id_of form text))
+keeps_known form entries (Repeat number) = false
 
 -- An entry has the blob id of the text that a delivery of this form would keep.
 abbrev pub form_known : Archive → Result (List ℕ) StoredRefusal → Bool
-form_known a (Ok text) = keeps_known a.entries (choice_of a text)
+form_known a (Ok text) = keeps_known a.config.form a.entries (choice_of a text)
 form_known a (Err why) = false
 
 -- A delivery and a removal read the disk at most once. Nothing bounds how often a purge and an edit

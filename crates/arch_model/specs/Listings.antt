@@ -3,6 +3,7 @@ use Rattle.std.specs.Prelude.{◌==◌, ℕ, List, [], ◌∷◌, map, reverse, 
 use Rattle.std.specs.declared.cmp.Ordering.{Ordering}
 use Rattle.std.specs.BTreeSet.{insert_key}
 use Rattle.std.specs.Ordering.{nat_cmp, ordering_then}
+use Rattle.arch_base.specs.declared.ids.Form.{Form}
 use Rattle.mail_commits.specs.Commits.{written_at}
 use Rattle.mail_commits.specs.Facts.{date_fact}
 use Rattle.mail_date.specs.declared.moment.Moment.{Moment}
@@ -11,19 +12,19 @@ use Rattle.mail_reader.specs.Ids.{own_id}
 use Rattle.arch_model.specs.Archives.{Entry, is_id}
 use Rattle.arch_model.specs.Rows.{row_of}
 
--- The row of a message, which arrived at the moment of its entry.
-abbrev pub row_at : Entry → Row
-row_at e = row_of e.number e.text e.moment
+-- The row of a message in a form, which arrived at the moment of its entry.
+abbrev pub row_at : Form → Entry → Row
+row_at form e = row_of form e.number e.text e.moment
 
 -- The rows of messages by their numbers, in order.
-abbrev pub rows_of : List Entry → List (ℕ × Row)
-rows_of [] = []
-rows_of (e ∷ es) = (e.number, row_at e) ∷ rows_of es
+abbrev pub rows_of : Form → List Entry → List (ℕ × Row)
+rows_of form [] = []
+rows_of form (e ∷ es) = (e.number, row_at form e) ∷ rows_of form es
 
 -- The row of the first of some messages with a number, if there is one.
-abbrev pub row_in : List Entry → ℕ → Option Row
-row_in [] n = None
-row_in (e ∷ es) n = if e.number == n then Some (row_at e) else row_in es n
+abbrev pub row_in : Form → List Entry → ℕ → Option Row
+row_in form [] n = None
+row_in form (e ∷ es) n = if e.number == n then Some (row_at form e) else row_in form es n
 
 -- The number of the first of some messages with this own id (RFC 5322, section 3.6.4), if there is
 -- one.

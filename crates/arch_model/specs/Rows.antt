@@ -1,6 +1,6 @@
 -- The row of a mail: what a list of mails says of it.
 use Rattle.std.specs.Prelude.{ℕ, List, length}
-use Rattle.arch_base.specs.declared.ids.Form.TheVariants as form
+use Rattle.arch_base.specs.declared.ids.Form.{Form}
 use Rattle.git_objects.specs.Objects.{blob_id_of}
 use Rattle.mail_commits.specs.Commits.{written_at}
 use Rattle.mail_commits.specs.Facts.{from_fact, subject_fact, date_fact}
@@ -12,11 +12,11 @@ use Rattle.mail_reader.specs.References.{refs_of}
 use Rattle.arch_model.specs.Overviews.{id_fact, over_of}
 use Rattle.mail_forms.specs.declared.row.Row.{Row}
 
--- The row of a text with this number, which arrived at this moment.
-unfoldable pub row_of : ℕ → List ℕ → ℕ → Row
-row_of number text arrived = record {
+-- The row of a text with this number, which arrived at this moment, with the blob id of a form.
+unfoldable pub row_of : Form → ℕ → List ℕ → ℕ → Row
+row_of form number text arrived = record {
   number = number;
-  blob = blob_id_of form.Sha1 text;
+  blob = blob_id_of form text;
   id = id_fact text;
   refs = refs_of text;
   subject = subject_fact text;

@@ -3,7 +3,7 @@ use Rattle.std.specs.Prelude.{◌≡◌, ◌≢◌, ◌+◌, ◌<◌, ◌≤◌,
 use Rattle.std.specs.List.{filter}
 use Rattle.arch_base.specs.Counts.{Rose}
 use Rattle.arch_base.specs.Ids.{id_eq}
-use Rattle.arch_base.specs.declared.ids.Form.TheVariants as form
+use Rattle.arch_base.specs.declared.ids.Form.{Form}
 use Rattle.arch_base.specs.declared.ids.ObjectId.{ObjectId}
 use Rattle.git_objects.specs.Objects.{blob_id_of}
 use Rattle.mail_commits.specs.Entries.{commit_id}
@@ -27,43 +27,43 @@ is_between low high e = nat_le low e.number && nat_le e.number high
 abbrev pub live_between : List Entry → ℕ → ℕ → ℕ
 live_between entries low high = length (filter (is_between low high) entries)
 
--- An entry after others, without its text. The parent of its commit is the last commit of its epoch.
-abbrev pub line_after : List Entry → Entry → EntryLine
-line_after before e = record {
+-- An entry after others, without its text, with ids of a form. The parent of its commit is the last commit of its epoch.
+abbrev pub line_after : Form → List Entry → Entry → EntryLine
+line_after form before e = record {
   kind = e.kind;
   number = e.number;
   epoch = e.epoch;
   secs = e.moment;
-  blob = blob_id_of form.Sha1 e.text;
+  blob = blob_id_of form e.text;
   size = length e.text;
-  commit = commit_id form.Sha1 e.kind e.text e.moment (last_commit None (in_epoch before e.epoch));
+  commit = commit_id form e.kind e.text e.moment (last_commit form None (in_epoch before e.epoch));
 }
 
 -- Entries after others, without their texts.
-abbrev pub lines_after : List Entry → List Entry → List EntryLine
-lines_after before [] = []
-lines_after before (e ∷ es) = line_after before e ∷ lines_after (before ++ e ∷ []) es
+abbrev pub lines_after : Form → List Entry → List Entry → List EntryLine
+lines_after form before [] = []
+lines_after form before (e ∷ es) = line_after form before e ∷ lines_after form (before ++ e ∷ []) es
 
 -- The entry at an index, from 0, without its text.
-abbrev pub line_at : List Entry → ℕ → Option EntryLine
-line_at entries index = slice_get (lines_after [] entries) index
+abbrev pub line_at : Form → List Entry → ℕ → Option EntryLine
+line_at form entries index = slice_get (lines_after form [] entries) index
 
--- The text of the first entry with a blob id, if there is one. All entries of a valid archive that
+-- The text of the first entry with a blob id of a form, if there is one. All entries of a valid archive that
 -- have the blob id have this text.
-abbrev pub blob_text : List Entry → ObjectId → Option (List ℕ)
-blob_text [] blob = None
-blob_text (e ∷ es) blob =
-    if id_eq blob (blob_id_of form.Sha1 e.text) then Some e.text else blob_text es blob
+abbrev pub blob_text : Form → List Entry → ObjectId → Option (List ℕ)
+blob_text form [] blob = None
+blob_text form (e ∷ es) blob =
+    if id_eq blob (blob_id_of form e.text) then Some e.text else blob_text form es blob
 
 -- The result of reading a text by its blob id: the text is appended, or no entry has the blob id. No
 -- damage is found.
-abbrev pub GivesBlobIn : List Entry → ObjectId → List ℕ → List ℕ → Result Bool TextRefusal → Type 0
-GivesBlobIn entries blob old new (Ok true) = (text : List ℕ) × (blob_text entries blob ≡ Some text)
+abbrev pub GivesBlobIn : Form → List Entry → ObjectId → List ℕ → List ℕ → Result Bool TextRefusal → Type 0
+GivesBlobIn form entries blob old new (Ok true) = (text : List ℕ) × (blob_text form entries blob ≡ Some text)
     × (new ≡ old ++ text)
-GivesBlobIn entries blob old new (Ok false) = blob_text entries blob ≡ None
-GivesBlobIn entries blob old new (Err (refusal.Damaged named found)) = ⊥
-GivesBlobIn entries blob old new (Err refusal.DiskFault) = Unit {0}
-GivesBlobIn entries blob old new (Err refusal.NoMemory) = Unit {0}
+GivesBlobIn form entries blob old new (Ok false) = blob_text form entries blob ≡ None
+GivesBlobIn form entries blob old new (Err (refusal.Damaged named found)) = ⊥
+GivesBlobIn form entries blob old new (Err refusal.DiskFault) = Unit {0}
+GivesBlobIn form entries blob old new (Err refusal.NoMemory) = Unit {0}
 
 -- Bytes were only appended to.
 abbrev pub AppendsTo : List ℕ → List ℕ → Type 0

@@ -1,5 +1,6 @@
 -- What a keeper stands for: its archive, and the one in doubt; and what its calls give and leave.
 use Rattle.std.specs.Prelude.{◌≡◌, ◌⊎◌, ◌≤◌, ◌<◌, ℕ, Bool, true, false, List, [], ◌∷◌, ◌++◌, Option, Some, None, is_some, Result, Ok, Err}
+use Rattle.arch_base.specs.declared.ids.Form.{Form}
 use Rattle.arch_model.specs.Archives.{Entry, Archive, text_of, has_entry}
 use Rattle.arch_model.specs.Epochs.{epoch_bytes}
 use Rattle.arch_model.specs.declared.answer.Answer.{Answer}
@@ -52,14 +53,14 @@ GivesTextIn entries n old new (Err (text_refusal.Damaged named found)) = ⊥
 GivesTextIn entries n old new (Err text_refusal.DiskFault) = Unit {0}
 GivesTextIn entries n old new (Err text_refusal.NoMemory) = Unit {0}
 
--- The result of reading an epoch of these entries: its bytes are appended, and it is told whether
--- it has an entry.
-abbrev pub GivesEpochIn : List Entry → List ℕ → List ℕ → Result Bool TextRefusal → Type 0
-GivesEpochIn entries old new (Ok found) = (new ≡ old ++ epoch_bytes entries)
+-- The result of reading an epoch of these entries in a form: its bytes are appended, and it is told
+-- whether it has an entry.
+abbrev pub GivesEpochIn : Form → List Entry → List ℕ → List ℕ → Result Bool TextRefusal → Type 0
+GivesEpochIn form entries old new (Ok found) = (new ≡ old ++ epoch_bytes form entries)
     × (found ≡ has_entry entries)
-GivesEpochIn entries old new (Err (text_refusal.Damaged named found)) = ⊥
-GivesEpochIn entries old new (Err text_refusal.DiskFault) = Unit {0}
-GivesEpochIn entries old new (Err text_refusal.NoMemory) = Unit {0}
+GivesEpochIn form entries old new (Err (text_refusal.Damaged named found)) = ⊥
+GivesEpochIn form entries old new (Err text_refusal.DiskFault) = Unit {0}
+GivesEpochIn form entries old new (Err text_refusal.NoMemory) = Unit {0}
 
 -- A refusal, and an epoch without an entry, leave the bytes unchanged.
 abbrev pub KeepsUnlessFound : List ℕ → List ℕ → Result Bool TextRefusal → Type 0

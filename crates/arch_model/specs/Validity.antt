@@ -4,7 +4,7 @@ use Rattle.std.specs.List.{AllByRecursion}
 use Rattle.arch_base.specs.Configs.{IsConfig}
 use Rattle.arch_base.specs.Moments.{last_moment}
 use Rattle.arch_base.specs.Names.{IsArchiveName}
-use Rattle.arch_base.specs.declared.ids.Form.TheVariants as form
+use Rattle.arch_base.specs.declared.ids.Form.{Form}
 use Rattle.mail_reader.specs.StorageTexts.{IsStorageText}
 use Rattle.mail_reader.specs.Ids.{own_id}
 use Rattle.git_objects.specs.Objects.{blob_id_of}
@@ -52,11 +52,11 @@ abbrev pub IdsDiffer : List Entry → Type 0
 IdsDiffer [] = Unit {0}
 IdsDiffer (e ∷ es) = AllByRecursion (λ (f : Entry). own_id f.text ≢ own_id e.text) es × IdsDiffer es
 
--- Entries with the same blob id have the same text.
-abbrev pub BlobsAgree : List Entry → Type 0
-BlobsAgree [] = Unit {0}
-BlobsAgree (e ∷ es) = AllByRecursion (λ (f : Entry). blob_id_of form.Sha1 f.text ≡ blob_id_of form.Sha1 e.text
-    → f.text ≡ e.text) es × BlobsAgree es
+-- Entries with the same blob id of a form have the same text.
+abbrev pub BlobsAgree : Form → List Entry → Type 0
+BlobsAgree form [] = Unit {0}
+BlobsAgree form (e ∷ es) = AllByRecursion (λ (f : Entry). blob_id_of form f.text ≡ blob_id_of form e.text
+    → f.text ≡ e.text) es × BlobsAgree form es
 
 -- The ids of the entries that are live after an entry differ.
 abbrev pub LiveDiffer : List Entry → Entry → Type 0
@@ -64,7 +64,8 @@ LiveDiffer before e = IdsDiffer (live (before ++ e ∷ []))
 
 -- The archive is valid: its settings are in their ranges, its entries are in order, the numbers of
 -- messages are at least 1 and below the next one, each deletion ends a live message, the own ids of
--- live messages differ at each place, and each blob id has one text.
+-- live messages differ at each place, and each blob id of its form has one
+-- text.
 pub record IsArchive (a : Archive) : Type 0 where
   pub name : IsArchiveName a.config.name
   pub config : IsConfig a.config
@@ -75,4 +76,4 @@ pub record IsArchive (a : Archive) : Type 0 where
   pub order : Rise 1 0 a.entries
   pub ends : AtEachPlace (λ (before : List Entry) (e : Entry). EndsLive e.kind before e) [] a.entries
   pub ids : AtEachPlace LiveDiffer [] a.entries
-  pub blobs : BlobsAgree a.entries
+  pub blobs : BlobsAgree a.config.form a.entries

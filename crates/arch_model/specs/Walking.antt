@@ -1,16 +1,16 @@
 -- What is given of entries that are walked through, one after another.
 use Rattle.std.specs.Prelude.{◌≡◌, ◌≢◌, ◌≤◌, ℕ, List, ◌++◌, slice_get, Some, Result, Ok, Err}
-use Rattle.arch_base.specs.declared.ids.Form.TheVariants as form
+use Rattle.arch_base.specs.Ids.{form_of}
 use Rattle.git_objects.specs.Objects.{blob_id_of}
 use Rattle.arch_model.specs.Archives.{Entry, Archive}
 use Rattle.arch_model.specs.declared.line.EntryLine.{EntryLine}
 use Rattle.arch_model.specs.declared.text_refusal.TextRefusal.{TextRefusal}
 use Rattle.arch_model.specs.declared.text_refusal.TextRefusal.TheVariants as refusal
 
--- The result of reading the text of an entry with this line: a text with the blob id of the line is
--- appended, or bytes with another id were found. No refusal changes the bytes.
+-- The result of reading the text of an entry with this line: a text is appended that has the blob id
+-- of the line, in the form of that id; or bytes with another id were found. No refusal changes the bytes.
 abbrev pub GivesLine : EntryLine → List ℕ → List ℕ → Result Unit TextRefusal → Type 0
-GivesLine line old new (Ok _) = (text : List ℕ) × (blob_id_of form.Sha1 text ≡ line.blob)
+GivesLine line old new (Ok _) = (text : List ℕ) × (blob_id_of (form_of line.blob) text ≡ line.blob)
     × (new ≡ old ++ text)
 GivesLine line old new (Err (refusal.Damaged named found)) = (new ≡ old) × (named ≡ line.blob)
     × (found ≢ named)

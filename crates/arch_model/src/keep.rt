@@ -121,7 +121,7 @@ pub trait Keep: Shelf {
     fn epoch_bytes(&mut self, epoch: u32, into: &mut Bytes) -> Result<bool, TextRefusal>
         requires ready { Self.ready self.old ≡ true }
         ensures bytes { (a : Archive) → Self.holds self.old a
-            → GivesEpochIn (in_epoch a.entries epoch) into.old into.new result }
+            → GivesEpochIn a.config.form (in_epoch a.entries epoch) into.old into.new result }
         ensures kept { KeepsUnlessFound into.old into.new result }
         ensures appends { AppendsTo into.old into.new }
         ensures shelf { ShelfStays Self.holds Self.ready Self.alike Self.faults self.old self.new }

@@ -50,7 +50,7 @@ pub trait Shelf {
     fn row(&self, n: u32) -> Option<&Row>
         requires ready { ready self.now ≡ true }
         ensures { (a : Archive) → holds self.now a
-            → option_copied result ≡ row_in (live a.entries) n };
+            → option_copied result ≡ row_in a.config.form (live a.entries) n };
 
     /// Returns the number of the live message with an own id, or `None` if there is none.
     fn by_id(&self, id: &[u8]) -> Option<u32>
@@ -112,7 +112,7 @@ pub trait Shelf {
     /// Returns the entry at an index, from 0, without its text, or `None` if there are not so many.
     fn entry(&self, index: u64) -> Option<EntryLine>
         requires ready { ready self.now ≡ true }
-        ensures { (a : Archive) → holds self.now a → result ≡ line_at a.entries index };
+        ensures { (a : Archive) → holds self.now a → result ≡ line_at a.config.form a.entries index };
 
     /// Appends the text of a live message. Reads the disk at most once.
     ///
@@ -139,7 +139,7 @@ pub trait Shelf {
     fn blob(&mut self, id: &ObjectId, into: &mut Bytes) -> Result<bool, TextRefusal>
         requires ready { ready self.old ≡ true }
         ensures blob { (a : Archive) → holds self.old a
-            → GivesBlobIn a.entries id.now into.old into.new result }
+            → GivesBlobIn a.config.form a.entries id.now into.old into.new result }
         ensures kept { KeepsUnlessFound into.old into.new result }
         ensures appends { AppendsTo into.old into.new }
         ensures shelf { ShelfStays holds ready alike faults self.old self.new }

@@ -4,7 +4,7 @@ use Rattle.std.specs.Prelude.{ℤ, option_map, length}
 use Rattle.std.proofs.lemmas.Int.{ints}
 use Rattle.std.proofs.lemmas.Option.{same_Some, none-some}
 use Rattle.arch_base.specs.declared.ids.ObjectId.{ObjectId}
-use Rattle.arch_base.specs.declared.ids.Form.TheVariants as form
+use Rattle.arch_base.specs.declared.ids.Form.{Form}
 use Rattle.git_objects.specs.Commits.{IsCommitZone}
 use Rattle.git_objects.specs.Objects.{blob_id_of}
 use Rattle.mail_commits.specs.Commits.{commit_of, written_at}
@@ -68,11 +68,11 @@ zone_fits zone h =
     omega (arith, ints)
 
 -- A row of the facts of a text is its row.
-pub row-made : (number : ℕ) (text : List ℕ) (arrived : ℕ) (blob : ObjectId) (id : List ℕ) (refs : List (List ℕ)) (subject from : List ℕ) (date : Moment) (size wire mbox lines : ℕ) (over content : List ℕ)
-    → blob ≡ blob_id_of form.Sha1 text → id ≡ id_fact text → refs ≡ refs_of text → subject ≡ subject_fact text → from ≡ from_fact text → date ≡ written_at (date_fact text) arrived → size ≡ length text
+pub row-made : (form : Form) (number : ℕ) (text : List ℕ) (arrived : ℕ) (blob : ObjectId) (id : List ℕ) (refs : List (List ℕ)) (subject from : List ℕ) (date : Moment) (size wire mbox lines : ℕ) (over content : List ℕ)
+    → blob ≡ blob_id_of form text → id ≡ id_fact text → refs ≡ refs_of text → subject ≡ subject_fact text → from ≡ from_fact text → date ≡ written_at (date_fact text) arrived → size ≡ length text
     → wire ≡ length (wire_of text) → mbox ≡ length (mbox_of text) → lines ≡ feeds_of (body_of text) → over ≡ over_of text → content ≡ content_id_of text
     → let made : Row = record { number = number; blob = blob; id = id; refs = refs; subject = subject; from = from; date = date; arrived = arrived; size = size; wire = wire; mbox = mbox; lines = lines; over = over; content = content } in
-    made ≡ row_of number text arrived
+    made ≡ row_of form number text arrived
 unfolding row_of
-row-made number text arrived blob id refs subject from date size wire mbox lines over content b i r s f d z w m l o c =
+row-made form number text arrived blob id refs subject from date size wire mbox lines over content b i r s f d z w m l o c =
     rw (b, i, r, s, f, d, z, w, m, l, o, c) refl

@@ -1,7 +1,7 @@
 //! Makes the row of a mail.
 //! Allocates.
 ghost use Rattle.std.specs.Prelude.{◌≡◌, length, IfOk};
-ghost use Rattle.arch_base.specs.declared.ids.Form.TheVariants as form;
+ghost use Rattle.arch_base.specs.declared.ids.Form.{Form};
 ghost use Rattle.mail_commits.specs.Commits.{written_at};
 ghost use Rattle.mail_commits.specs.Ids.{text_ids_of};
 ghost use Rattle.mail_commits.specs.Facts.{from_fact, subject_fact, date_fact};
@@ -24,8 +24,8 @@ use mail_reader::{body, first_value, flat, own_id, refs_of};
 use mime_words::decode;
 use std::alloc::Global;
 
-/// Returns the row of a storage text with this number and these ids, which arrived at this moment, in
-/// seconds since 1970 UTC.
+/// Returns the row of a storage text with this number and these ids, in a form or the other, which
+/// arrived at this moment, in seconds since 1970 UTC.
 ///
 /// `NoMemory` if an allocation fails.
 pub fn row_of(
@@ -36,8 +36,8 @@ pub fn row_of(
     arrived: u64,
 ) -> Result<Row, NoMemory>
     requires text { IsStorageText text.now }
-    requires ids { ids.now ≡ text_ids_of form.Sha1 text.now }
-    ensures { IfOk result (λ row. row ≡ row_fact number text.now arrived) }
+    ensures { (form : Form) → ids.now ≡ text_ids_of form text.now
+        → IfOk result (λ row. row ≡ row_fact form number text.now arrived) }
 {
     let heading = heading_of(alloc, text, &ids.blob, arrived)?;
     let links = links_of(alloc, text)?;
