@@ -2,23 +2,25 @@
 use Rattle.std.proofs.Common.{Bool, not, true, false, ◌≡◌, ◌≢◌, ◌≤◌, ◌<◌, ◌+◌, inl, inr, ◌⊎◌, ℕ, List, [], ◌∷◌, ◌++◌, map, length, get_or, drop, All, Option, Some, None, codes, decimal, refl, sym, ◌∙◌, ap, subst, append_assoc, arith, length-append, drop-cons, add-one}
 use Rattle.std.proofs.lemmas.Bool.{not-false}
 use Rattle.std.specs.Borrow.{Bor}
-use Rattle.std.specs.Option.{option_to_list}
+use Rattle.std.specs.Option.{option_to_list, unwrap_or}
 use Rattle.std.specs.List.{flat_map}
 use Rattle.std.proofs.lemmas.Fmt.{decimal_injective}
 use Rattle.std.proofs.lemmas.Grind.{flat_map-append}
 use Rattle.std.proofs.lemmas.List.{append-nil, length-map, map-append}
 use Rattle.std.proofs.lemmas.List.Elements.{All-nil, All-cons, All-push, All-head, All-tail}
 use Rattle.arch_base.specs.Configs.{IsConfig}
+use Rattle.arch_base.specs.Names.{IsArchiveName}
 use Rattle.edge_io.specs.Parsing.{Spells}
 use Rattle.arch_base.specs.declared.config.Config.{Config}
-use Rattle.archive_cli.specs.Words.{AreMakingWords, IsInit, IsReplay, AreNumberWords, IsLone, IsServe, IsServeOption, GivesServing, serve_word, IsLoad, IsJob, AsksFor, IsSetting, IsOneUpTo, EachOnce, setting_word, limit_of, slice_of, max_of, mirror_of, limits, slices, maxes, mirrors, spelled, limit_in, slice_in, max_in, mirror_in}
-use Rattle.archive_cli.specs.Options.{IsServing, HoldsSettings, HoldsMore, HoldsTwo, marks}
+use Rattle.arch_base.specs.declared.ids.Form.TheVariants as form
+use Rattle.archive_cli.specs.Words.{AreMakingWords, IsInit, IsReplay, AreNumberWords, IsLone, IsServe, IsServeOption, GivesServing, serve_word, IsLoad, IsJob, AsksFor, IsSetting, IsOneUpTo, EachOnce, setting_word, limit_of, slice_of, max_of, mirror_of, form_given, limits, slices, maxes, mirrors, forms, spelled, limit_in, slice_in, max_in, mirror_in, config_of}
+use Rattle.archive_cli.specs.Options.{IsServing, HoldsSettings, HoldsMore, HoldsTwo, Collects, config_by, marks}
 use Rattle.archive_cli.specs.declared.words.Job.{Job}
 use Rattle.archive_cli.specs.declared.words.Job.TheVariants.{Help, Version, Replay, Load, Init, Deliver, Remove, Purge, Edit, Reindex, Check, Serve}
 use Rattle.archive_cli.specs.declared.words.ServeOption.{ServeOption}
 use Rattle.archive_cli.specs.declared.words.ServeOption.TheVariants as serving
 use Rattle.archive_cli.specs.declared.words.Setting.{Setting}
-use Rattle.archive_cli.specs.declared.words.Setting.TheVariants.{Limit, Slice, Max, Mirror}
+use Rattle.archive_cli.specs.declared.words.Setting.TheVariants.{Limit, Slice, Max, Mirror, Sha256}
 use Rattle.archive_cli.specs.declared.words.Settings.{Settings}
 
 -- Texts with different first bytes differ.
@@ -31,18 +33,27 @@ same_setting (Limit m) (Limit n) p q e = ap Limit (decimal_injective m n (omega 
 same_setting (Limit m) Mirror p q e = absurd (apart 108 109 (codes "imit=" ++ decimal m) (codes "irror") (omega arith) e)
 same_setting (Limit m) (Slice n) p q e = absurd (apart 108 115 (codes "imit=" ++ decimal m) (codes "lice=" ++ decimal n) (omega arith) e)
 same_setting (Limit m) (Max n) p q e = absurd (apart 108 109 (codes "imit=" ++ decimal m) (codes "ax=" ++ decimal n) (omega arith) e)
+same_setting (Limit m) Sha256 p q e = absurd (apart 108 115 (codes "imit=" ++ decimal m) (codes "ha256") (omega arith) e)
 same_setting (Slice m) (Limit n) p q e = absurd (apart 115 108 (codes "lice=" ++ decimal m) (codes "imit=" ++ decimal n) (omega arith) e)
 same_setting (Slice m) (Slice n) p q e = ap Slice (decimal_injective m n (omega (arith, p.1)) (omega (arith, q.1)) (ap (drop 6) e))
 same_setting (Slice m) Mirror p q e = absurd (apart 115 109 (codes "lice=" ++ decimal m) (codes "irror") (omega arith) e)
 same_setting (Slice m) (Max n) p q e = absurd (apart 115 109 (codes "lice=" ++ decimal m) (codes "ax=" ++ decimal n) (omega arith) e)
+same_setting (Slice m) Sha256 p q e = absurd (apart 108 104 (codes "ice=" ++ decimal m) (codes "a256") (omega arith) (ap (drop 1) e))
 same_setting (Max m) (Limit n) p q e = absurd (apart 109 108 (codes "ax=" ++ decimal m) (codes "imit=" ++ decimal n) (omega arith) e)
 same_setting (Max m) (Slice n) p q e = absurd (apart 109 115 (codes "ax=" ++ decimal m) (codes "lice=" ++ decimal n) (omega arith) e)
 same_setting (Max m) (Max n) p q e = ap Max (decimal_injective m n (omega (arith, p.1)) (omega (arith, q.1)) (ap (drop 4) e))
 same_setting (Max m) Mirror p q e = absurd (apart 97 105 (codes "x=" ++ decimal m) (codes "rror") (omega arith) (ap (drop 1) e))
+same_setting (Max m) Sha256 p q e = absurd (apart 109 115 (codes "ax=" ++ decimal m) (codes "ha256") (omega arith) e)
 same_setting Mirror (Limit n) p q e = absurd (apart 109 108 (codes "irror") (codes "imit=" ++ decimal n) (omega arith) e)
 same_setting Mirror (Slice n) p q e = absurd (apart 109 115 (codes "irror") (codes "lice=" ++ decimal n) (omega arith) e)
 same_setting Mirror (Max n) p q e = absurd (apart 105 97 (codes "rror") (codes "x=" ++ decimal n) (omega arith) (ap (drop 1) e))
 same_setting Mirror Mirror p q e = refl
+same_setting Mirror Sha256 p q e = absurd (apart 109 115 (codes "irror") (codes "ha256") (omega arith) e)
+same_setting Sha256 (Limit n) p q e = absurd (apart 115 108 (codes "ha256") (codes "imit=" ++ decimal n) (omega arith) e)
+same_setting Sha256 (Slice n) p q e = absurd (apart 104 108 (codes "a256") (codes "ice=" ++ decimal n) (omega arith) (ap (drop 1) e))
+same_setting Sha256 (Max n) p q e = absurd (apart 115 109 (codes "ha256") (codes "ax=" ++ decimal n) (omega arith) e)
+same_setting Sha256 Mirror p q e = absurd (apart 115 109 (codes "ha256") (codes "irror") (omega arith) e)
+same_setting Sha256 Sha256 p q e = refl
 
 -- Lists with equal first items and equal rests are equal.
 grown : (f g : Setting) (gs rest : List Setting) → f ≡ g → gs ≡ rest → g ∷ gs ≡ f ∷ rest
@@ -88,12 +99,13 @@ given-le kind front g later held is =
     let all : flat_map kind (front ++ g ∷ later) ≡ held ++ (kind g ++ flat_map kind later) = flat_map-append kind front (g ∷ later) ∙ ap (λ ns. ns ++ (kind g ++ flat_map kind later)) is in
     omega (arith, ap length all, length-append held (kind g), length-append held (kind g ++ flat_map kind later), length-append (kind g) (flat_map kind later))
 
--- One of four kinds can't be given twice if each is given at most once.
-twice : {a b c d x y z w : ℕ} → (1 < a) ⊎ ((1 < b) ⊎ ((1 < c) ⊎ (1 < d))) → a ≤ x → b ≤ y → c ≤ z → d ≤ w → x ≤ 1 → y ≤ 1 → z ≤ 1 → w ≤ 1 → ⊥
-twice (inl p) e f g h i j k l = omega arith
-twice (inr (inl p)) e f g h i j k l = omega arith
-twice (inr (inr (inl p))) e f g h i j k l = omega arith
-twice (inr (inr (inr p))) e f g h i j k l = omega arith
+-- One of five kinds can't be given twice if each is given at most once.
+twice : {a b c d e x y z w v : ℕ} → (1 < a) ⊎ ((1 < b) ⊎ ((1 < c) ⊎ ((1 < d) ⊎ (1 < e)))) → a ≤ x → b ≤ y → c ≤ z → d ≤ w → e ≤ v → x ≤ 1 → y ≤ 1 → z ≤ 1 → w ≤ 1 → v ≤ 1 → ⊥
+twice (inl p) f g h i j k l m n o = omega arith
+twice (inr (inl p)) f g h i j k l m n o = omega arith
+twice (inr (inr (inl p))) f g h i j k l m n o = omega arith
+twice (inr (inr (inr (inl p)))) f g h i j k l m n o = omega arith
+twice (inr (inr (inr (inr p)))) f g h i j k l m n o = omega arith
 
 -- The options before some index were read.
 pub record Reading (words rest : List (List ℕ)) (held : Settings) : Type 0 where
@@ -118,6 +130,7 @@ module _ (words : List (List ℕ)) (word : List ℕ) (rest : List (List ℕ)) (h
       slice_is = given-more slice_of r.settings g (option_to_list held.slice) r.holds.slice_is ∙ m.slice_is;
       max_is = given-more max_of r.settings g (option_to_list held.max) r.holds.max_is ∙ m.max_is;
       mirror_is = given-more mirror_of r.settings g (marks held.mirror) r.holds.mirror_is ∙ m.mirror_is;
+      form_is = given-more form_given r.settings g (option_to_list held.form) r.holds.form_is ∙ m.form_is;
     };
   }
 
@@ -139,7 +152,8 @@ module _ (words : List (List ℕ)) (word : List ℕ) (rest : List (List ℕ)) (h
       (subst (λ (k : List Setting). length (option_to_list held.slice ++ slice_of g) ≤ length (slices k)) (sym split) (given-le slice_of r.settings g s.later (option_to_list held.slice) r.holds.slice_is))
       (subst (λ (k : List Setting). length (option_to_list held.max ++ max_of g) ≤ length (maxes k)) (sym split) (given-le max_of r.settings g s.later (option_to_list held.max) r.holds.max_is))
       (subst (λ (k : List Setting). length (marks held.mirror ++ mirror_of g) ≤ length (mirrors k)) (sym split) (given-le mirror_of r.settings g s.later (marks held.mirror) r.holds.mirror_is))
-      once.one_limit once.one_slice once.one_max once.one_mirror
+      (subst (λ (k : List Setting). length (option_to_list held.form ++ form_given g) ≤ length (forms k)) (sym split) (given-le form_given r.settings g s.later (option_to_list held.form) r.holds.form_is))
+      once.one_limit once.one_slice once.one_max once.one_mirror once.one_form
 
 -- The options from an index on.
 spelled-at : (options : List (Bor (List ℕ))) (i : ℕ) (d : Bor (List ℕ)) → i < length options → spelled (drop i options) ≡ (get_or options i d).now ∷ spelled (drop (i + 1) options)
@@ -149,6 +163,59 @@ spelled-at options i d within = rw add-one (ap spelled (drop-cons options i d wi
 pub Reading-at : (options : List (Bor (List ℕ))) (i : ℕ) (d : Bor (List ℕ)) (held : Settings) → i < length options → Reading (spelled options) (spelled (drop i options)) held → Reading (spelled options) ((get_or options i d).now ∷ spelled (drop (i + 1) options)) held
 Reading-at options i d held within r = subst (λ ws. Reading (spelled options) ws held) (spelled-at options i d within) r
 
+-- What settings of a kind give at first is what is held of the kind, or the default.
+first-held : {A : Type 0} (kind : Setting → List A) (settings : List Setting) (held : Option A) (default : A) → flat_map kind settings ≡ option_to_list held → unwrap_or held default ≡ get_or (flat_map kind settings) 0 default
+first-held kind settings None default is = ap (λ xs. get_or xs 0 default) (sym is)
+first-held kind settings (Some value) default is = ap (λ xs. get_or xs 0 default) (sym is)
+
+first-marked : (settings : List Setting) (held : Bool) → mirrors settings ≡ marks held → held ≡ mirror_in settings
+first-marked settings true is = ap (λ xs. get_or xs 0 false) (sym is)
+first-marked settings false is = ap (λ xs. get_or xs 0 false) (sym is)
+
+-- What is held is of each kind at most once.
+option-once : {A : Type 0} (given : List A) (held : Option A) → given ≡ option_to_list held → length given ≤ 1
+option-once given None is = subst (λ xs. length xs ≤ 1) (sym is) (omega arith)
+option-once given (Some value) is = subst (λ xs. length xs ≤ 1) (sym is) (omega arith)
+
+mark-once : (given : List Bool) (held : Bool) → given ≡ marks held → length given ≤ 1
+mark-once given true is = subst (λ xs. length xs ≤ 1) (sym is) (omega arith)
+mark-once given false is = subst (λ xs. length xs ≤ 1) (sym is) (omega arith)
+
+once-held : (settings : List Setting) (held : Settings) → HoldsSettings settings held → EachOnce settings
+once-held settings held h = record {
+  one_limit = option-once (limits settings) held.limit h.limit_is;
+  one_slice = option-once (slices settings) held.slice h.slice_is;
+  one_max = option-once (maxes settings) held.max h.max_is;
+  one_mirror = mark-once (mirrors settings) held.mirror h.mirror_is;
+  one_form = option-once (forms settings) held.form h.form_is;
+}
+
+-- The settings by what is held are those that the words give.
+config-held : (name : List ℕ) (settings : List Setting) (held : Settings) → HoldsSettings settings held → config_by name held ≡ config_of name settings
+config-held name settings held h = λ i. record {
+  name = name;
+  limit = first-held limit_of settings held.limit 1073741824 h.limit_is i;
+  slice = first-held slice_of settings held.slice 50000 h.slice_is i;
+  max = first-held max_of settings held.max 2147483647 h.max_is i;
+  mirror = first-marked settings held.mirror h.mirror_is i;
+  born = 1;
+  form = first-held form_given settings held.form form.Sha1 h.form_is i;
+}
+
+-- A name and the words of settings make an archive.
+pub configured : (name text : List ℕ) (after : List (List ℕ)) (held : Settings) (config : Config) → (name ≡ text) × IsArchiveName text → Collects after held → config ≡ config_by name held → (settings : List Setting) × AreMakingWords (text ∷ after) settings config
+configured name text after held config named c is = (
+  c.settings,
+  record {
+    name = text;
+    is = ap (λ (words : List (List ℕ)). text ∷ words) c.is;
+    valid = named.1;
+    ranges = c.ranges;
+    once = once-held c.settings held c.holds;
+    config_is = is ∙ ap (λ (n : List ℕ). config_by n held) named.0 ∙ config-held text c.settings held c.holds;
+  },
+)
+
 -- Settings whose first mark is missing have no `mirror`.
 none_marked : (settings : List Setting) → mirror_in settings ≡ false → mirrors settings ≡ []
 none_marked [] e = refl
@@ -156,6 +223,7 @@ none_marked (Limit n ∷ gs) e = none_marked gs e
 none_marked (Slice n ∷ gs) e = none_marked gs e
 none_marked (Max n ∷ gs) e = none_marked gs e
 none_marked (Mirror ∷ gs) e = absurd (cc e)
+none_marked (Sha256 ∷ gs) e = none_marked gs e
 
 -- The settings of a mirror.
 mirror-made : (words : List (List ℕ)) (settings : List Setting) (config : Config) (b : Bool) → AreMakingWords words settings config → config.mirror ≡ b → mirror_in settings ≡ b
@@ -377,18 +445,21 @@ limit-first (Limit n) h = h
 limit-first (Slice n) h = (omega arith, omega arith)
 limit-first (Max n) h = (omega arith, omega arith)
 limit-first Mirror h = (omega arith, omega arith)
+limit-first Sha256 h = (omega arith, omega arith)
 
 slice-first : (g : Setting) → IsSetting g → IsOneUpTo 1000000 (get_or (slice_of g) 0 50000)
 slice-first (Limit n) h = (omega arith, omega arith)
 slice-first (Slice n) h = h
 slice-first (Max n) h = (omega arith, omega arith)
 slice-first Mirror h = (omega arith, omega arith)
+slice-first Sha256 h = (omega arith, omega arith)
 
 max-first : (g : Setting) → IsSetting g → IsOneUpTo 2147483647 (get_or (max_of g) 0 2147483647)
 max-first (Limit n) h = (omega arith, omega arith)
 max-first (Slice n) h = (omega arith, omega arith)
 max-first (Max n) h = h
 max-first Mirror h = (omega arith, omega arith)
+max-first Sha256 h = (omega arith, omega arith)
 
 -- The settings of a made archive are in their ranges.
 made-config : (words : List (List ℕ)) (settings : List Setting) (config : Config) → AreMakingWords words settings config → IsConfig config

@@ -2,7 +2,8 @@
 use Rattle.std.specs.Prelude.{◌≡◌, ◌<◌, ◌⊎◌, ℕ, Bool, true, false, List, [], ◌∷◌, ◌++◌, map, length, All, Option, Some, None}
 use Rattle.std.specs.Option.{option_to_list, unwrap_or}
 use Rattle.arch_base.specs.declared.config.Config.{Config}
-use Rattle.archive_cli.specs.Words.{setting_word, GivesServing, IsSetting, AreMakingWords, EachOnce, limit_of, slice_of, max_of, mirror_of, limits, slices, maxes, mirrors}
+use Rattle.arch_base.specs.declared.ids.Form.TheVariants as form
+use Rattle.archive_cli.specs.Words.{setting_word, GivesServing, IsSetting, AreMakingWords, EachOnce, limit_of, slice_of, max_of, mirror_of, form_given, limits, slices, maxes, mirrors, forms}
 use Rattle.archive_cli.specs.declared.words.Job.{Job}
 use Rattle.archive_cli.specs.declared.words.Job.TheVariants.{Serve}
 use Rattle.archive_cli.specs.declared.words.ServeOption.{ServeOption}
@@ -20,6 +21,7 @@ pub record HoldsSettings (settings : List Setting) (held : Settings) : Type 0 wh
   pub slice_is : slices settings ≡ option_to_list held.slice
   pub max_is : maxes settings ≡ option_to_list held.max
   pub mirror_is : mirrors settings ≡ marks held.mirror
+  pub form_is : forms settings ≡ option_to_list held.form
 
 -- One more setting is held.
 pub record HoldsMore (held : Settings) (setting : Setting) (more : Settings) : Type 0 where
@@ -27,6 +29,7 @@ pub record HoldsMore (held : Settings) (setting : Setting) (more : Settings) : T
   pub slice_is : option_to_list held.slice ++ slice_of setting ≡ option_to_list more.slice
   pub max_is : option_to_list held.max ++ max_of setting ≡ option_to_list more.max
   pub mirror_is : marks held.mirror ++ mirror_of setting ≡ marks more.mirror
+  pub form_is : option_to_list held.form ++ form_given setting ≡ option_to_list more.form
 
 -- A setting of this kind is held already.
 abbrev pub HoldsTwo : Settings → Setting → Type 0
@@ -34,7 +37,8 @@ HoldsTwo held setting =
     (1 < length (option_to_list held.limit ++ limit_of setting))
     ⊎ ((1 < length (option_to_list held.slice ++ slice_of setting))
     ⊎ ((1 < length (option_to_list held.max ++ max_of setting))
-    ⊎ (1 < length (marks held.mirror ++ mirror_of setting))))
+    ⊎ ((1 < length (marks held.mirror ++ mirror_of setting))
+    ⊎ (1 < length (option_to_list held.form ++ form_given setting)))))
 
 -- One more setting is held, or it is refused as the second of its kind.
 abbrev pub IsWith : Settings → Setting → Option Settings → Type 0
@@ -63,6 +67,7 @@ config_by name held = record {
   max = unwrap_or held.max 2147483647;
   mirror = held.mirror;
   born = 1;
+  form = unwrap_or held.form form.Sha1;
 }
 
 -- The settings of the archive that words give, or none if they aren't a name with settings after

@@ -140,6 +140,7 @@ made_at config moment = record {
   max = config.max;
   mirror = config.mirror;
   born = max 1 (min moment 4294967295);
+  form = config.form;
 }
 
 -- The message on an input.

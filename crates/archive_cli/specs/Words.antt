@@ -4,23 +4,26 @@ use Rattle.std.specs.List.{flat_map}
 use Rattle.std.specs.Borrow.{Bor}
 use Rattle.arch_base.specs.Names.{IsArchiveName}
 use Rattle.arch_base.specs.declared.config.Config.{Config}
+use Rattle.arch_base.specs.declared.ids.Form.{Form}
+use Rattle.arch_base.specs.declared.ids.Form.TheVariants as form
 use Rattle.archive_cli.specs.declared.words.Job.{Job}
 use Rattle.archive_cli.specs.declared.words.Job.TheVariants.{Help, Version, Replay, Load, Init, Deliver, Remove, Purge, Edit, Reindex, Check, Serve}
 use Rattle.archive_cli.specs.declared.words.ServeOption.{ServeOption}
 use Rattle.archive_cli.specs.declared.words.ServeOption.TheVariants as serving
 use Rattle.archive_cli.specs.declared.words.Setting.{Setting}
-use Rattle.archive_cli.specs.declared.words.Setting.TheVariants.{Limit, Slice, Max, Mirror}
+use Rattle.archive_cli.specs.declared.words.Setting.TheVariants.{Limit, Slice, Max, Mirror, Sha256}
 
 -- The words as their bytes.
 abbrev pub spelled : List (Bor (List ℕ)) → List (List ℕ)
 spelled words = map (λ (word : Bor (List ℕ)). word.now) words
 
--- The word of a setting: its kind, `=`, and its number in decimal; or `mirror` alone.
+-- The word of a setting: its kind, `=`, and its number in decimal; or `mirror` or `sha256` alone.
 abbrev pub setting_word : Setting → List ℕ
 setting_word (Limit n) = codes "limit=" ++ decimal n
 setting_word (Slice n) = codes "slice=" ++ decimal n
 setting_word (Max n) = codes "max=" ++ decimal n
 setting_word Mirror = codes "mirror"
+setting_word Sha256 = codes "sha256"
 
 -- A number from 1 to `most`.
 abbrev pub IsOneUpTo : ℕ → ℕ → Type 0
@@ -32,6 +35,7 @@ IsSetting (Limit n) = IsOneUpTo 1099511627776 n
 IsSetting (Slice n) = IsOneUpTo 1000000 n
 IsSetting (Max n) = IsOneUpTo 2147483647 n
 IsSetting Mirror = Unit {0}
+IsSetting Sha256 = Unit {0}
 
 -- The limit that a setting gives, if it is of that kind.
 abbrev pub limit_of : Setting → List ℕ
@@ -53,6 +57,11 @@ abbrev pub mirror_of : Setting → List Bool
 mirror_of Mirror = true ∷ []
 mirror_of other = []
 
+-- The form of the objects that a setting gives, if it is of that kind.
+abbrev pub form_given : Setting → List Form
+form_given Sha256 = form.Sha256 ∷ []
+form_given other = []
+
 -- All limits that settings give.
 abbrev pub limits : List Setting → List ℕ
 limits settings = flat_map limit_of settings
@@ -69,12 +78,17 @@ maxes settings = flat_map max_of settings
 abbrev pub mirrors : List Setting → List Bool
 mirrors settings = flat_map mirror_of settings
 
+-- All forms of objects that settings give.
+abbrev pub forms : List Setting → List Form
+forms settings = flat_map form_given settings
+
 -- No two settings are of one kind.
 pub record EachOnce (settings : List Setting) : Type 0 where
   pub one_limit : length (limits settings) ≤ 1
   pub one_slice : length (slices settings) ≤ 1
   pub one_max : length (maxes settings) ≤ 1
   pub one_mirror : length (mirrors settings) ≤ 1
+  pub one_form : length (forms settings) ≤ 1
 
 -- The limit that settings give, or the default: the length in bytes from which an epoch takes no
 -- further entry, unless it is the last that there may be.
@@ -93,6 +107,10 @@ max_in settings = get_or (maxes settings) 0 2147483647
 abbrev pub mirror_in : List Setting → Bool
 mirror_in settings = get_or (mirrors settings) 0 false
 
+-- The form of the objects that settings give, or the default, that of the SHA-1.
+abbrev pub form_in : List Setting → Form
+form_in settings = get_or (forms settings) 0 form.Sha1
+
 -- The settings of an archive with this name. Those not given have their defaults, and `born` is 1.
 abbrev pub config_of : List ℕ → List Setting → Config
 config_of name settings = record {
@@ -102,6 +120,7 @@ config_of name settings = record {
   max = max_in settings;
   mirror = mirror_in settings;
   born = 1;
+  form = form_in settings;
 }
 
 -- The name of an archive, and then words of settings, in any order, each kind at most once.

@@ -5,7 +5,7 @@
 pub const HELP: &str = "\
 piv2: a mailing list archive, kept in the folder piv2-store of this folder
 
-  init NAME [limit=N] [slice=N] [max=N] [mirror]
+  init NAME [limit=N] [slice=N] [max=N] [mirror] [sha256]
              make the archive, with these settings        piv2 init list
   deliver    append the message on the input              piv2 deliver < mail
   remove N   remove message N from view                   piv2 remove 2
@@ -17,15 +17,15 @@ piv2: a mailing list archive, kept in the folder piv2-store of this folder
              serve it on this machine until the input     piv2 serve port=7100
              ends, or for N events: commands at the port
              (7100), HTTP 7101, news 7102, IMAP 7103, POP3 7104, LMTP 7105
-  replay NAME [limit=N] [slice=N] [max=N]
+  replay NAME [limit=N] [slice=N] [max=N] [sha256]
              run a script over an archive in memory       piv2 replay a < script
   load COUNT SEED
              fill an archive in memory, and count it      piv2 load 5000 7
   --help     print this                                   piv2 --help
   --version  print the version                            piv2 --version
 
-Settings, in any order: limit=N, a file with N bytes takes no more; slice=N, so
-many numbers make a mailbox; max=N, the last number; mirror, no deliveries.
+Settings, in any order: limit=N, N bytes fill a file; slice=N, a mailbox has N
+numbers; max=N, the last number; mirror, no deliveries; sha256, ids by SHA-256.
 ";
 
 /// What `--version` prints.

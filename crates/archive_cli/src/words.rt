@@ -5,7 +5,7 @@ ghost use Rattle.edge_io.specs.Parsing.{Spells};
 ghost use Rattle.archive_cli.specs.Words.{IsJob, IsLone, IsSetting, IsServeOption, IsOneUpTo, config_of, setting_word, serve_word, spelled};
 ghost use Rattle.archive_cli.specs.Options.{IsCollected, IsConfigured, IsServing, IsWith, config_by};
 
-use arch_base::{Config, Name, read_decimal};
+use arch_base::{Config, Form, Name, read_decimal};
 use load_run::GREATEST_LOAD;
 
 /// The greatest limit of an epoch, in bytes.
@@ -82,6 +82,8 @@ pub enum Setting {
     Max(u32),
     /// `mirror`: the archive mirrors another one, and takes no commands.
     Mirror,
+    /// `sha256`: the SHA-256 names the objects of the archive, in place of the SHA-1.
+    Sha256,
 }
 
 /// The settings that options give, at most one of each kind.
@@ -91,6 +93,7 @@ struct Settings {
     slice: Option<u32>,
     max: Option<u32>,
     mirror: bool,
+    form: Option<Form>,
 }
 
 impl Settings {
@@ -121,6 +124,10 @@ impl Settings {
                 mirror: true,
                 ..self
             }),
+            Setting::Sha256 if self.form.is_none() => Some(Settings {
+                form: Some(Form::Sha256),
+                ..self
+            }),
             _ => None,
         }
     }
@@ -136,6 +143,7 @@ impl Settings {
             max: self.max.unwrap_or(2_147_483_647),
             mirror: self.mirror,
             born: 1,
+            form: self.form.unwrap_or(Form::Sha1),
         }
     }
 }
@@ -149,6 +157,7 @@ pub(crate) fn default_config(name: Name) -> Config
         slice: None,
         max: None,
         mirror: false,
+        form: None,
     };
     settings.config(name)
 }
@@ -163,7 +172,8 @@ pub(crate) fn default_config(name: Name) -> Config
 /// * `limit=N`: 1 to 1,099,511,627,776, by default 1,073,741,824;
 /// * `slice=N`: 1 to 1,000,000, by default 50,000;
 /// * `max=N`: 1 to 2,147,483,647, which is the default;
-/// * `mirror`: after `init` only.
+/// * `mirror`: after `init` only;
+/// * `sha256`: the SHA-256 names the objects, by default the SHA-1.
 ///
 /// `serve` has two options, each at most once, in any order:
 ///
@@ -378,6 +388,7 @@ fn read_settings(options: &[&str]) -> Option<Settings>
         slice: None,
         max: None,
         mirror: false,
+        form: None,
     };
     for option in options {
         let setting = read_setting(option)?;
@@ -390,8 +401,10 @@ fn read_settings(options: &[&str]) -> Option<Settings>
 fn read_setting(word: &str) -> Option<Setting>
     ensures { Spells IsSetting setting_word word.now result }
 {
-    if word == "mirror" {
-        return Some(Setting::Mirror);
+    match word {
+        "mirror" => return Some(Setting::Mirror),
+        "sha256" => return Some(Setting::Sha256),
+        _ => {}
     }
     let word = word.as_bytes();
     if let Some(digits) = word.strip_prefix(b"limit=") {
