@@ -7,11 +7,11 @@ use Rattle.arch_base.specs.Names.{IsArchiveName}
 use Rattle.arch_base.specs.Configs.{IsConfig}
 use Rattle.root_slots.specs.declared.root.Place.{Place}
 use Rattle.disk_model.specs.BigEndian.{be64, rest_is, apart64, apart32}
-use Rattle.root_slots.specs.Spelling.{flag, place_bytes, name_bytes, config_bytes, spelling}
+use Rattle.root_slots.specs.Spelling.{flag, format_byte, place_bytes, name_bytes, config_bytes, spelling}
 use Rattle.root_slots.specs.Sizes.{spelling_length}
 use Rattle.root_slots.specs.Valid.{no_place, PlaceFits}
 use Rattle.root_slots.specs.Laws.{SpellingsDiffer, SpellingsFill}
-use Rattle.root_slots.proofs.Reading.{place_parts, place_is, name_parts, config_parts, config_is, root_parts, root_is, second_byte, flag_read}
+use Rattle.root_slots.proofs.Reading.{place_parts, place_is, name_parts, config_parts, config_is, root_parts, root_is, first_byte, second_byte, flag_read, format_once}
 
 -- Bytes that start with places.
 apart_place : (p q : Place) (x y : List ℕ) → PlaceFits p → PlaceFits q → place_bytes p ++ x ≡ place_bytes q ++ y → (p ≡ q) × (x ≡ y)
@@ -48,13 +48,14 @@ apart_config c d x y named named2 a b is =
     let bytes = config_bytes c ++ x in
     let left = config_parts bytes x c refl in
     let right = config_parts bytes y d is in
-    let mirrors = sym (flag_read c.mirror) ∙ (ap (λ (n : ℕ). nat_eq n 1) (sym (second_byte bytes _ 1 (flag c.mirror) left) ∙ second_byte bytes _ 1 (flag d.mirror) right) ∙ flag_read d.mirror) in
-    let names = apart_name c.name d.name _ _ named named2 (sym (rest_is 2 bytes (1 ∷ flag c.mirror ∷ []) _ refl left) ∙ rest_is 2 bytes (1 ∷ flag d.mirror ∷ []) _ refl right) in
+    let mirrors = sym (flag_read c.mirror) ∙ (ap (λ (n : ℕ). nat_eq n 1) (sym (second_byte bytes _ (format_byte c.form) (flag c.mirror) left) ∙ second_byte bytes _ (format_byte d.form) (flag d.mirror) right) ∙ flag_read d.mirror) in
+    let forms = format_once c.form d.form (sym (first_byte bytes _ (format_byte c.form) (flag c.mirror) left) ∙ first_byte bytes _ (format_byte d.form) (flag d.mirror) right) in
+    let names = apart_name c.name d.name _ _ named named2 (sym (rest_is 2 bytes (format_byte c.form ∷ flag c.mirror ∷ []) _ refl left) ∙ rest_is 2 bytes (format_byte d.form ∷ flag d.mirror ∷ []) _ refl right) in
     let limits = apart64 c.limit d.limit _ _ (omega (arith, a.limit_high)) (omega (arith, b.limit_high)) names.1 in
     let slices = apart32 c.slice d.slice _ _ (omega (arith, a.slice_high)) (omega (arith, b.slice_high)) limits.1 in
     let mosts = apart32 c.max d.max _ _ (omega (arith, a.max_high)) (omega (arith, b.max_high)) slices.1 in
     let borns = apart32 c.born d.born x y (omega (arith, a.born_high)) (omega (arith, b.born_high)) mosts.1 in
-    (config_is c d names.0 limits.0 slices.0 mosts.0 mirrors borns.0, borns.1)
+    (config_is c d names.0 limits.0 slices.0 mosts.0 mirrors borns.0 forms, borns.1)
 
 -- Two roots with the same spelling are equal.
 pub spellings_differ : SpellingsDiffer

@@ -5,11 +5,13 @@ use Rattle.std.proofs.Common.{◌∙◌, sym, ap, subst, arith, append_assoc, ad
 use Rattle.std.proofs.lemmas.List.{take_more_set}
 use Rattle.std.proofs.Math.Seq.{take-append_seam, take-suc, drop-cons}
 use Rattle.arch_base.specs.declared.config.Config.{Config}
+use Rattle.arch_base.specs.declared.ids.Form.{Form}
+use Rattle.arch_base.specs.declared.ids.Form.TheVariants.{Sha1, Sha256}
 use Rattle.arch_base.specs.Names.{IsArchiveName}
 use Rattle.root_slots.specs.declared.root.Place.{Place}
 use Rattle.root_slots.specs.declared.root.Root.{Root}
 use Rattle.disk_model.specs.BigEndian.{be32, be64, front_is, rest_is}
-use Rattle.root_slots.specs.Spelling.{flag, place_bytes, name_bytes, config_bytes, fields, spelling}
+use Rattle.root_slots.specs.Spelling.{flag, format_byte, place_bytes, name_bytes, config_bytes, fields, spelling}
 use Rattle.root_slots.specs.Sizes.{name_length}
 use Rattle.root_slots.specs.Valid.{no_place, PlaceFits}
 
@@ -45,14 +47,25 @@ name_parts bytes rest text valid is =
     }
 
 -- The parts of settings.
-pub config_parts : (bytes rest : List ℕ) (c : Config) → bytes ≡ config_bytes c ++ rest → bytes ≡ (1 ∷ flag c.mirror ∷ []) ++ (name_bytes c.name ++ (be64 c.limit ++ (be32 c.slice ++ (be32 c.max ++ (be32 c.born ++ rest)))))
+pub config_parts : (bytes rest : List ℕ) (c : Config) → bytes ≡ config_bytes c ++ rest → bytes ≡ (format_byte c.form ∷ flag c.mirror ∷ []) ++ (name_bytes c.name ++ (be64 c.limit ++ (be32 c.slice ++ (be32 c.max ++ (be32 c.born ++ rest)))))
 unfolding config_bytes
-config_parts bytes rest c is = is ∙ six_parts (1 ∷ flag c.mirror ∷ []) (name_bytes c.name) (be64 c.limit) (be32 c.slice) (be32 c.max) (be32 c.born) rest
+config_parts bytes rest c is = is ∙ six_parts (format_byte c.form ∷ flag c.mirror ∷ []) (name_bytes c.name) (be64 c.limit) (be32 c.slice) (be32 c.max) (be32 c.born) rest
 
 -- A flag is read back.
 pub flag_read : (mirror : Bool) → nat_eq (flag mirror) 1 ≡ mirror
 flag_read true = refl
 flag_read false = refl
+
+-- The forms have formats of their own.
+pub format_once : (form other : Form) → format_byte form ≡ format_byte other → form ≡ other
+format_once Sha1 Sha1 is = refl
+format_once Sha1 Sha256 is = absurd (omega (arith, is))
+format_once Sha256 Sha1 is = absurd (omega (arith, is))
+format_once Sha256 Sha256 is = refl
+
+-- The first of two bytes at the front.
+pub first_byte : (bytes rest : List ℕ) (a b : ℕ) → bytes ≡ (a ∷ b ∷ []) ++ rest → get_or (take 2 bytes) 0 0 ≡ a
+first_byte bytes rest a b is = ap (λ (l : List ℕ). get_or (take 2 l) 0 0) is
 
 -- The second of two bytes at the front.
 pub second_byte : (bytes rest : List ℕ) (a b : ℕ) → bytes ≡ (a ∷ b ∷ []) ++ rest → get_or (take 2 bytes) 1 0 ≡ b
@@ -91,9 +104,9 @@ pub root_parts : (bytes : List ℕ) (r : Root) → bytes ≡ spelling r → byte
 unfolding spelling fields
 root_parts bytes r is = is ∙ six_parts (be64 r.sequence) (config_bytes r.config) (be32 r.next) (place_bytes r.map) (flat_map place_bytes r.epochs) (place_bytes r.cache) (replicate (1536 - length (fields r)) 0)
 
--- Settings of six values.
-pub config_is : (x c : Config) → x.name ≡ c.name → x.limit ≡ c.limit → x.slice ≡ c.slice → x.max ≡ c.max → x.mirror ≡ c.mirror → x.born ≡ c.born → x ≡ c
-config_is x c p1 p2 p3 p4 p5 p6 = λ i. record { name = p1 i; limit = p2 i; slice = p3 i; max = p4 i; mirror = p5 i; born = p6 i }
+-- Settings of seven values.
+pub config_is : (x c : Config) → x.name ≡ c.name → x.limit ≡ c.limit → x.slice ≡ c.slice → x.max ≡ c.max → x.mirror ≡ c.mirror → x.born ≡ c.born → x.form ≡ c.form → x ≡ c
+config_is x c p1 p2 p3 p4 p5 p6 p7 = λ i. record { name = p1 i; limit = p2 i; slice = p3 i; max = p4 i; mirror = p5 i; born = p6 i; form = p7 i }
 
 -- A root of six values.
 pub root_is : (x r : Root) → x.config ≡ r.config → x.sequence ≡ r.sequence → x.next ≡ r.next → x.map ≡ r.map → x.epochs ≡ r.epochs → x.cache ≡ r.cache → x ≡ r

@@ -10,7 +10,7 @@ use Rattle.root_slots.specs.declared.root.Place.{Place}
 use Rattle.root_slots.specs.declared.root.Root.{Root}
 use Rattle.disk_model.specs.Sizes.{epoch_count}
 use Rattle.disk_model.specs.BigEndian.{be32, be64, be32_length, be64_length}
-use Rattle.root_slots.specs.Spelling.{body_size, flag, place_bytes, name_bytes, config_bytes, fields, spelling}
+use Rattle.root_slots.specs.Spelling.{body_size, flag, format_byte, place_bytes, name_bytes, config_bytes, fields, spelling}
 use Rattle.root_slots.specs.Slots.{sequence_of}
 
 -- A place takes 16 bytes.
@@ -53,7 +53,7 @@ name_length name valid =
 pub config_length : (c : Config) → IsArchiveName c.name → length (config_bytes c) ≡ 87
 unfolding config_bytes
 config_length c valid =
-    let a = (1 ∷ flag c.mirror ∷ []) ++ name_bytes c.name in
+    let a = (format_byte c.form ∷ flag c.mirror ∷ []) ++ name_bytes c.name in
     let b = a ++ be64 c.limit in
     let d = b ++ be32 c.slice in
     let e = d ++ be32 c.max in
@@ -65,7 +65,7 @@ config_length c valid =
           (be32 c.slice),
       length-append a (be64 c.limit),
       length-append
-          (1 ∷ flag c.mirror ∷ []) (name_bytes c.name),
+          (format_byte c.form ∷ flag c.mirror ∷ []) (name_bytes c.name),
       name_length c.name valid,
       be64_length
           c.limit,

@@ -2,6 +2,8 @@
 use Rattle.std.specs.Prelude.{ℕ, ◌-◌, Bool, true, false, List, [], ◌∷◌, ◌++◌, length, replicate}
 use Rattle.std.specs.List.{flat_map}
 use Rattle.arch_base.specs.declared.config.Config.{Config}
+use Rattle.arch_base.specs.declared.ids.Form.{Form}
+use Rattle.arch_base.specs.declared.ids.Form.TheVariants.{Sha1, Sha256}
 use Rattle.disk_model.specs.BigEndian.{be32, be64}
 use Rattle.root_slots.specs.declared.root.Place.{Place}
 use Rattle.root_slots.specs.declared.root.Root.{Root}
@@ -23,9 +25,14 @@ flag false = 0
 unfoldable pub name_bytes : List ℕ → List ℕ
 name_bytes name = (length name ∷ []) ++ name ++ replicate (64 - length name) 0
 
--- The format, which is 1, and the settings.
+-- The format by the form of ids: 1 or 2.
+abbrev pub format_byte : Form → ℕ
+format_byte Sha1 = 1
+format_byte Sha256 = 2
+
+-- The format and the settings.
 unfoldable pub config_bytes : Config → List ℕ
-config_bytes c = (1 ∷ flag c.mirror ∷ []) ++ name_bytes c.name ++ be64 c.limit ++ be32 c.slice
+config_bytes c = (format_byte c.form ∷ flag c.mirror ∷ []) ++ name_bytes c.name ++ be64 c.limit ++ be32 c.slice
     ++ be32 c.max ++ be32 c.born
 
 -- All fields of a root.

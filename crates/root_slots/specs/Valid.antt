@@ -1,7 +1,6 @@
 -- Which roots are valid.
 use Rattle.std.specs.Prelude.{◌≡◌, ◌<◌, ◌≤◌, ◌*◌, ◌-◌, ◌^◌, ℕ, length, get_or}
 use Rattle.std.specs.List.{All}
-use Rattle.arch_base.specs.declared.ids.Form.TheVariants as form
 use Rattle.arch_base.specs.Configs.{IsConfig}
 use Rattle.arch_base.specs.Names.{IsArchiveName}
 use Rattle.disk_model.specs.Sizes.{epoch_count, record_size}
@@ -31,12 +30,12 @@ pub record PlaceIsValid (sequence : ℕ) (p : Place) : Type 0 where
   pub generation : p.generation ≤ sequence
   pub empty : p.length ≡ 0 → p.generation ≡ 0
 
--- The ranges of a root: settings, next number, the map's length, and generations.
+-- The ranges of a root: settings, next number, the map's length by the form, and generations.
 pub record IsRoot (r : Root) : Type 0 where
   pub config : IsConfig r.config
   pub next_least : 1 ≤ r.next
   pub next_most : r.next ≤ 2147483648
   pub map_gen : r.map.generation ≤ r.sequence
-  pub map_length : r.map.length ≡ record_size form.Sha1 * (r.next - 1)
+  pub map_length : r.map.length ≡ record_size r.config.form * (r.next - 1)
   pub epochs : All (PlaceIsValid r.sequence) r.epochs
   pub cache : PlaceIsValid r.sequence r.cache

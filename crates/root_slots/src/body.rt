@@ -3,13 +3,23 @@
 ghost use Rattle.std.specs.Prelude.{◌≡◌, ◌+◌, ◌-◌, ◌≤◌, [], ◌++◌, List, ℕ, length, replicate};
 ghost use Rattle.std.specs.List.{flat_map};
 ghost use Rattle.disk_model.specs.BigEndian.{be32, be64};
-ghost use Rattle.root_slots.specs.Spelling.{body_size, place_bytes, name_bytes, config_bytes, spelling};
+ghost use Rattle.root_slots.specs.Spelling.{body_size, place_bytes, name_bytes, format_byte, config_bytes, spelling};
 
 use crate::root::{Place, Root};
 use crate::slot::BODY_SIZE;
-use arch_base::{Config, Name};
+use arch_base::{Config, Form, Name};
 use disk_model::EPOCHS;
 use std::marker::Model;
+
+/// Returns the format by the form of ids: 1 or 2.
+fn format(form: Form) -> u8
+    ensures { result ≡ format_byte form }
+{
+    match form {
+        Form::Sha1 => 1,
+        Form::Sha256 => 2,
+    }
+}
 
 /// A body that is written from its first byte on.
 ///
@@ -114,7 +124,7 @@ impl Body {
         ensures bytes { self.new ≡ self.old ++ config_bytes config.now }
         ensures size { length self.new ≡ length self.old + 87 }
     {
-        self.push(&[1, u8::from(config.mirror)]);
+        self.push(&[format(config.form), u8::from(config.mirror)]);
         self.push_name(&config.name);
         self.push_u64(config.limit);
         self.push_u32(config.slice);

@@ -17,7 +17,7 @@ use crate::refusal::RootRefusal;
 use crate::root::{Place, Root};
 use crate::slot::{BODY_SIZE, ROOT_SIZE, Slot};
 use crate::slots::root_file;
-use arch_base::{Config, Form};
+use arch_base::Config;
 use disk_model::{Disk, DiskFault, records_size};
 
 /// Returns whether settings are in their ranges.
@@ -49,7 +49,7 @@ pub fn is_valid(root: &Root) -> bool
         return false;
     }
     if root.map.generation > sequence
-        || root.map.length != records_size(root.next - 1, Form::Sha1)
+        || root.map.length != records_size(root.next - 1, root.config.form)
     {
         return false;
     }

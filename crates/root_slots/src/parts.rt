@@ -9,15 +9,16 @@ ghost use Rattle.std.specs.Int.{from_be_bytes, w64};
 ghost use Rattle.arch_base.specs.Names.{IsArchiveName};
 ghost use Rattle.arch_base.specs.Configs.{IsConfig};
 ghost use Rattle.arch_base.specs.declared.config.Config.{Config};
+ghost use Rattle.arch_base.specs.declared.ids.Form.{Form};
 ghost use Rattle.root_slots.specs.declared.root.Place.{Place};
 ghost use Rattle.root_slots.specs.declared.root.Root.{Root};
 ghost use Rattle.disk_model.specs.Sizes.{epoch_count};
 ghost use Rattle.disk_model.specs.BigEndian.{be32, be64};
-ghost use Rattle.root_slots.specs.Spelling.{body_size, place_bytes, name_bytes, config_bytes, spelling};
+ghost use Rattle.root_slots.specs.Spelling.{body_size, place_bytes, name_bytes, format_byte, config_bytes, spelling};
 ghost use Rattle.root_slots.specs.Valid.{no_place, PlaceFits, RootFits, IsRoot};
 
 use crate::root::{Place, Root};
-use arch_base::{Config, Name};
+use arch_base::{Config, Form, Name};
 use disk_model::EPOCHS;
 
 /// Reads a number of 64 bits, the highest byte first.
@@ -75,6 +76,16 @@ fn name(bytes: &[u8]) -> (Option<Name>, &[u8])
     (Name::read(&text[..length]), rest)
 }
 
+/// Returns the form that a format names. A format that names none may give any form.
+fn form_by(format: u8) -> Form
+    ensures { (of : Form) → format ≡ format_byte of → result ≡ of }
+{
+    match format {
+        2 => Form::Sha256,
+        _ => Form::Sha1,
+    }
+}
+
 /// Reads settings, if they have a name.
 fn config(bytes: &[u8]) -> (Option<Config>, &[u8])
     requires { 87 ≤ length bytes.now }
@@ -83,6 +94,7 @@ fn config(bytes: &[u8]) -> (Option<Config>, &[u8])
     ensures size { length result.1.now + 87 ≡ length bytes.now }
 {
     let (front, rest) = bytes.split_at(2);
+    let form = form_by(front[0]);
     let mirror = front[1] == 1;
     let (name, rest) = name(rest);
     let (limit, rest) = number64(rest);
@@ -98,6 +110,7 @@ fn config(bytes: &[u8]) -> (Option<Config>, &[u8])
                 max,
                 mirror,
                 born,
+                form,
             }),
             rest,
         ),
