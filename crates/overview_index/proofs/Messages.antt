@@ -12,6 +12,7 @@ use Rattle.std.specs.Str.{bytes_eq}
 use Rattle.std.proofs.lemmas.Bool.{ltb-true, eqb-true, eq-eqb}
 use Rattle.std.proofs.lemmas.List.{reverse-append}
 use Rattle.std.proofs.lemmas.List.Sums.{sum_by-cons}
+use Rattle.arch_base.specs.declared.ids.Form.{Form}
 use Rattle.mail_forms.specs.declared.row.Row.{Row}
 use Rattle.mail_reader.specs.Ids.{own_id}
 use Rattle.arch_model.specs.Archives.{Entry, is_id, text_of}
@@ -27,19 +28,19 @@ use Rattle.overview_index.specs.Listings.{row_in, number_of, with_row, without, 
 use Rattle.overview_index.specs.declared.spot.Spot.{Spot}
 
 -- The number of a row is its message's.
-pub row-number : (n : ℕ) (text : List ℕ) (moment : ℕ) → (row_of n text moment).number ≡ n
+pub row-number : (form : Form) (n : ℕ) (text : List ℕ) (moment : ℕ) → (row_of form n text moment).number ≡ n
 unfolding row_of
-row-number n text moment = refl
+row-number form n text moment = refl
 
 -- The date of a row is its message's.
-pub row-date : (e : Entry) → (row_at e).date ≡ date_at e
+pub row-date : (form : Form) (e : Entry) → (row_at form e).date ≡ date_at e
 unfolding row_of
-row-date e = refl
+row-date form e = refl
 
 -- The ids of a row are its message's keys.
-pub row-keys : (e : Entry) → (row_at e).id ∷ (row_at e).refs ≡ keys_at e
+pub row-keys : (form : Form) (e : Entry) → (row_at form e).id ∷ (row_at form e).refs ≡ keys_at e
 unfolding row_of
-row-keys e = refl
+row-keys form e = refl
 
 -- Each of these messages has an own id.
 abbrev pub HasId : Entry → Type 0
@@ -50,9 +51,9 @@ id_step None q some = absurd (let wrong : false ≡ true = some in cc)
 id_step (Some id) q some = refl
 
 -- The id of a row is its message's own id.
-pub row-id : (e : Entry) (q : List ℕ) → HasId e → bytes_eq q (row_at e).id ≡ is_id q (own_id e.text)
+pub row-id : (form : Form) (e : Entry) (q : List ℕ) → HasId e → bytes_eq q (row_at form e).id ≡ is_id q (own_id e.text)
 unfolding row_of id_fact
-row-id e q has = id_step (own_id e.text) q has
+row-id form e q has = id_step (own_id e.text) q has
 
 -- The tests for a number.
 pub at_is : (n m : ℕ) → is_at (nat_cmp n) m ≡ (m == n)
@@ -72,21 +73,21 @@ row_step true false x found other same is = absurd (cc)
 row_step false true x found other same is = absurd (cc)
 row_step false false x found other same is = is
 
-pub row-is : (es : List Entry) (n : ℕ) → row_in (rows_of es) n ≡ row_shown es n
-row-is [] n = refl
-row-is (e ∷ es) n = row_step (is_at (nat_cmp n) e.number) (e.number == n) (row_at e) (row_in (rows_of es) n) (row_shown es n) (at_is n e.number) (row-is es n)
+pub row-is : (form : Form) (es : List Entry) (n : ℕ) → row_in (rows_of form es) n ≡ row_shown form es n
+row-is form [] n = refl
+row-is form (e ∷ es) n = row_step (is_at (nat_cmp n) e.number) (e.number == n) (row_at form e) (row_in (rows_of form es) n) (row_shown form es n) (at_is n e.number) (row-is form es n)
 
 -- There is a row just where there is a text.
 shown_step : (t : Bool) (x : Row) (text : List ℕ) (found : Option Row) (other : Option (List ℕ)) → is_some found ≡ is_some other → is_some (if t then Some x else found) ≡ is_some (if t then Some text else other)
 shown_step true x text found other is = refl
 shown_step false x text found other is = is
 
-pub row-shown : (es : List Entry) (n : ℕ) → is_some (row_shown es n) ≡ is_some (text_of es n)
-row-shown [] n = refl
-row-shown (e ∷ es) n = shown_step (e.number == n) (row_at e) e.text (row_shown es n) (text_of es n) (row-shown es n)
+pub row-shown : (form : Form) (es : List Entry) (n : ℕ) → is_some (row_shown form es n) ≡ is_some (text_of es n)
+row-shown form [] n = refl
+row-shown form (e ∷ es) n = shown_step (e.number == n) (row_at form e) e.text (row_shown form es n) (text_of es n) (row-shown form es n)
 
-pub row-text : (es : List Entry) (n : ℕ) → is_some (row_in (rows_of es) n) ≡ is_some (text_of es n)
-row-text es n = ap is_some (row-is es n) ∙ row-shown es n
+pub row-text : (form : Form) (es : List Entry) (n : ℕ) → is_some (row_in (rows_of form es) n) ≡ is_some (text_of es n)
+row-text form es n = ap is_some (row-is form es n) ∙ row-shown form es n
 
 none_of : {X : Type 0} (found : Option X) (other : Option Row) → is_some other ≡ is_some found → other ≡ None → found ≡ None
 none_of None other same none = refl
@@ -99,18 +100,18 @@ number_step true false n found other same is = absurd (cc)
 number_step false true n found other same is = absurd (cc)
 number_step false false n found other same is = is
 
-pub number-is : (es : List Entry) (q : List ℕ) → AllByRecursion HasId es → number_of (rows_of es) q ≡ number_of_id es q
-number-is [] q all = refl
-number-is (e ∷ es) q all = number_step (bytes_eq q (row_at e).id) (is_id q (own_id e.text)) e.number (number_of (rows_of es) q) (number_of_id es q) (row-id e q all.0) (number-is es q all.1)
+pub number-is : (form : Form) (es : List Entry) (q : List ℕ) → AllByRecursion HasId es → number_of (rows_of form es) q ≡ number_of_id es q
+number-is form [] q all = refl
+number-is form (e ∷ es) q all = number_step (bytes_eq q (row_at form e).id) (is_id q (own_id e.text)) e.number (number_of (rows_of form es) q) (number_of_id es q) (row-id form e q all.0) (number-is form es q all.1)
 
 -- Numbers from one on, and up to one.
-pub least-live : (es : List Entry) (n : ℕ) (found : Option ℕ) → IsLeastFrom (rows_of es) n found → IsLeastLive es n found
-least-live es n None none = λ m above. none_of (text_of es m) (row_in (rows_of es) m) (row-text es m) (none m above)
-least-live es n (Some k) least = (least.0, sym (row-text es k) ∙ least.1, λ m above below. none_of (text_of es m) (row_in (rows_of es) m) (row-text es m) (least.2 m above below))
+pub least-live : (form : Form) (es : List Entry) (n : ℕ) (found : Option ℕ) → IsLeastFrom (rows_of form es) n found → IsLeastLive es n found
+least-live form es n None none = λ m above. none_of (text_of es m) (row_in (rows_of form es) m) (row-text form es m) (none m above)
+least-live form es n (Some k) least = (least.0, sym (row-text form es k) ∙ least.1, λ m above below. none_of (text_of es m) (row_in (rows_of form es) m) (row-text form es m) (least.2 m above below))
 
-pub greatest-live : (es : List Entry) (n : ℕ) (found : Option ℕ) → IsGreatestTo (rows_of es) n found → IsGreatestLive es n found
-greatest-live es n None none = λ m below. none_of (text_of es m) (row_in (rows_of es) m) (row-text es m) (none m below)
-greatest-live es n (Some k) greatest = (greatest.0, sym (row-text es k) ∙ greatest.1, λ m above below. none_of (text_of es m) (row_in (rows_of es) m) (row-text es m) (greatest.2 m below above))
+pub greatest-live : (form : Form) (es : List Entry) (n : ℕ) (found : Option ℕ) → IsGreatestTo (rows_of form es) n found → IsGreatestLive es n found
+greatest-live form es n None none = λ m below. none_of (text_of es m) (row_in (rows_of form es) m) (row-text form es m) (none m below)
+greatest-live form es n (Some k) greatest = (greatest.0, sym (row-text form es k) ∙ greatest.1, λ m above below. none_of (text_of es m) (row_in (rows_of form es) m) (row-text form es m) (greatest.2 m below above))
 
 -- How many numbers are between two.
 count-cons : (test : ℕ → Bool) (m : ℕ) (ms : List ℕ) → count_by test (m ∷ ms) ≡ cond (test m) 1 0 + count_by test ms
@@ -120,11 +121,11 @@ between_step : (t : Bool) (e : Entry) (fs : List Entry) (count : ℕ) → count 
 between_step true e fs count is = omega (arith, is)
 between_step false e fs count is = omega (arith, is)
 
-pub crash_between-live : (es : List Entry) (low high : ℕ) → live_between (rows_of es) low high ≡ live_among es low high
-crash_between-live [] low high = refl
-crash_between-live (e ∷ es) low high =
-    count-cons (λ m. nat_le low m && nat_le m high) e.number (keys_of (rows_of es))
-    ∙ between_step (nat_le low e.number && nat_le e.number high) e (filter (is_between low high) es) (live_between (rows_of es) low high) (crash_between-live es low high)
+pub crash_between-live : (form : Form) (es : List Entry) (low high : ℕ) → live_between (rows_of form es) low high ≡ live_among es low high
+crash_between-live form [] low high = refl
+crash_between-live form (e ∷ es) low high =
+    count-cons (λ m. nat_le low m && nat_le m high) e.number (keys_of (rows_of form es))
+    ∙ between_step (nat_le low e.number && nat_le e.number high) e (filter (is_between low high) es) (live_between (rows_of form es) low high) (crash_between-live form es low high)
 
 -- The listing.
 abbrev pub pair_of : Spot → ℕ × ℕ
@@ -140,13 +141,13 @@ insert_pair (y ∷ ys) x = step (spot_cmp x y) (insert_pair ys x) where
   step Greater ih = ap (λ ps. pair_of y ∷ ps) ih
 
 -- The number in a row is its message's, here in place of that in a spot.
-spot-pair : (e : Entry) → pair_of (spot_of (row_at e)) ≡ dated e
-spot-pair e =
-    ap (λ n. ((row_at e).date.secs, n)) (row-number e.number e.text e.moment) ∙ ap (λ (date : Moment). (date.secs, e.number)) (row-date e)
+spot-pair : (form : Form) (e : Entry) → pair_of (spot_of (row_at form e)) ≡ dated e
+spot-pair form e =
+    ap (λ n. ((row_at form e).date.secs, n)) (row-number form e.number e.text e.moment) ∙ ap (λ (date : Moment). (date.secs, e.number)) (row-date form e)
 
-spots-dated : (es : List Entry) → map pair_of (spots (rows_of es)) ≡ by_date es
-spots-dated [] = refl
-spots-dated (e ∷ es) = insert_pair (spots (rows_of es)) (spot_of (row_at e)) ∙ ap (λ p. insert_key date_cmp (map pair_of (spots (rows_of es))) p) (spot-pair e) ∙ ap (λ ps. insert_key date_cmp ps (dated e)) (spots-dated es)
+spots-dated : (form : Form) (es : List Entry) → map pair_of (spots (rows_of form es)) ≡ by_date es
+spots-dated form [] = refl
+spots-dated form (e ∷ es) = insert_pair (spots (rows_of form es)) (spot_of (row_at form e)) ∙ ap (λ p. insert_key date_cmp (map pair_of (spots (rows_of form es))) p) (spot-pair form e) ∙ ap (λ ps. insert_key date_cmp ps (dated e)) (spots-dated form es)
 
 map_append : (xs ys : List Spot) → map pair_of (xs ++ ys) ≡ map pair_of xs ++ map pair_of ys
 map_append [] ys = refl
@@ -164,9 +165,9 @@ numbers_of_pairs : (xs : List Spot) → map number_at xs ≡ map number_beside (
 numbers_of_pairs [] = refl
 numbers_of_pairs (x ∷ xs) = ap (λ ns. x.number ∷ ns) (numbers_of_pairs xs)
 
-pub listing-is : (es : List Entry) → listing (rows_of es) ≡ listed es
+pub listing-is : (form : Form) (es : List Entry) → listing (rows_of form es) ≡ listed es
 unfolding listing listed
-listing-is es = numbers_of_pairs (reverse (spots (rows_of es))) ∙ ap (map number_beside) (reversed_pairs (spots (rows_of es)) ∙ ap reverse (spots-dated es))
+listing-is form es = numbers_of_pairs (reverse (spots (rows_of form es))) ∙ ap (map number_beside) (reversed_pairs (spots (rows_of form es)) ∙ ap reverse (spots-dated form es))
 
 -- One more message, whose number is above all others.
 abbrev pub AllBelow : ℕ → List Entry → Type 0
@@ -179,31 +180,31 @@ above_front n m below = by (nat_lt n m) (n == m) refl refl where
   by false true a b = absurd (let same : n ≡ m = eqb-true n m b in omega (arith, same, below))
   by false false a b = refl
 
-pub rows-push : (es : List Entry) (e : Entry) → rows_of (es ++ e ∷ []) ≡ rows_of es ++ (e.number, row_at e) ∷ []
-rows-push [] e = refl
-rows-push (x ∷ es) e = ap (λ rs. (x.number, row_at x) ∷ rs) (rows-push es e)
+pub rows-push : (form : Form) (es : List Entry) (e : Entry) → rows_of form (es ++ e ∷ []) ≡ rows_of form es ++ (e.number, row_at form e) ∷ []
+rows-push form [] e = refl
+rows-push form (x ∷ es) e = ap (λ rs. (x.number, row_at form x) ∷ rs) (rows-push form es e)
 
-insert_last : (es : List Entry) (n : ℕ) (row : Row) → AllBelow n es → insert_entry nat_cmp (rows_of es) n row ≡ rows_of es ++ (n, row) ∷ []
-insert_last [] n row below = refl
-insert_last (e ∷ es) n row below =
-    ap (λ (r : Ordering). match_ordering r ((n, row) ∷ rows_of (e ∷ es)) ((e.number, row) ∷ rows_of es) ((e.number, row_at e) ∷ insert_entry nat_cmp (rows_of es) n row)) (above_front n e.number below.0)
-    ∙ ap (λ rs. (e.number, row_at e) ∷ rs) (insert_last es n row below.1)
+insert_last : (form : Form) (es : List Entry) (n : ℕ) (row : Row) → AllBelow n es → insert_entry nat_cmp (rows_of form es) n row ≡ rows_of form es ++ (n, row) ∷ []
+insert_last form [] n row below = refl
+insert_last form (e ∷ es) n row below =
+    ap (λ (r : Ordering). match_ordering r ((n, row) ∷ rows_of form (e ∷ es)) ((e.number, row) ∷ rows_of form es) ((e.number, row_at form e) ∷ insert_entry nat_cmp (rows_of form es) n row)) (above_front n e.number below.0)
+    ∙ ap (λ rs. (e.number, row_at form e) ∷ rs) (insert_last form es n row below.1)
 
-pub rows-added : (es : List Entry) (e : Entry) → AllBelow e.number es → with_row (rows_of es) (row_at e) ≡ rows_of (es ++ e ∷ [])
-rows-added es e below =
-    ap (λ n. insert_entry nat_cmp (rows_of es) n (row_at e)) (row-number e.number e.text e.moment)
-    ∙ insert_last es e.number (row_at e) below
-    ∙ sym (rows-push es e)
+pub rows-added : (form : Form) (es : List Entry) (e : Entry) → AllBelow e.number es → with_row (rows_of form es) (row_at form e) ≡ rows_of form (es ++ e ∷ [])
+rows-added form es e below =
+    ap (λ n. insert_entry nat_cmp (rows_of form es) n (row_at form e)) (row-number form e.number e.text e.moment)
+    ∙ insert_last form es e.number (row_at form e) below
+    ∙ sym (rows-push form es e)
 
 -- One message less, where numbers rise.
 abbrev pub Ascends : ℕ → List Entry → Type 0
 Ascends number [] = Unit {0}
 Ascends number (e ∷ es) = (number ≤ e.number) × Ascends (e.number + 1) es
 
-gone_step : (n : ℕ) (e : Entry) (es : List Entry) (t : Bool) → (e.number == n) ≡ t → (e.number ≡ n → without_number n es ≡ es) → without (rows_of es) n ≡ rows_of (without_number n es)
-    → cond t (rows_of es) ((e.number, row_at e) ∷ without (rows_of es) n) ≡ rows_of (if t then without_number n es else e ∷ without_number n es)
-gone_step n e es true test none ih = ap rows_of (sym (none (eqb-true e.number n test)))
-gone_step n e es false test none ih = ap (λ rs. (e.number, row_at e) ∷ rs) ih
+gone_step : (form : Form) (n : ℕ) (e : Entry) (es : List Entry) (t : Bool) → (e.number == n) ≡ t → (e.number ≡ n → without_number n es ≡ es) → without (rows_of form es) n ≡ rows_of form (without_number n es)
+    → cond t (rows_of form es) ((e.number, row_at form e) ∷ without (rows_of form es) n) ≡ rows_of form (if t then without_number n es else e ∷ without_number n es)
+gone_step form n e es true test none ih = ap (rows_of form) (sym (none (eqb-true e.number n test)))
+gone_step form n e es false test none ih = ap (λ rs. (e.number, row_at form e) ∷ rs) ih
 
 other_front : (n m : ℕ) → n < m → (m == n) ≡ false
 other_front n m less = by (m == n) refl where
@@ -218,8 +219,8 @@ none-below (e ∷ es) n number ascends less =
     ap (λ (t : Bool). if t then without_number n es else e ∷ without_number n es) (other_front n e.number (omega (arith, above, less)))
     ∙ ap (λ (l : List Entry). e ∷ l) (none-below es n (e.number + 1) ascends.1 (omega (arith, above, less)))
 
-pub rows-taken : (es : List Entry) (number n : ℕ) → Ascends number es → without (rows_of es) n ≡ rows_of (without_number n es)
-rows-taken [] number n ascends = refl
-rows-taken (e ∷ es) number n ascends =
-    ap (λ (t : Bool). cond t (rows_of es) ((e.number, row_at e) ∷ without (rows_of es) n)) (at_is n e.number)
-    ∙ gone_step n e es (e.number == n) refl (λ same. none-below es n (e.number + 1) ascends.1 (omega (arith, same))) (rows-taken es (e.number + 1) n ascends.1)
+pub rows-taken : (form : Form) (es : List Entry) (number n : ℕ) → Ascends number es → without (rows_of form es) n ≡ rows_of form (without_number n es)
+rows-taken form [] number n ascends = refl
+rows-taken form (e ∷ es) number n ascends =
+    ap (λ (t : Bool). cond t (rows_of form es) ((e.number, row_at form e) ∷ without (rows_of form es) n)) (at_is n e.number)
+    ∙ gone_step form n e es (e.number == n) refl (λ same. none-below es n (e.number + 1) ascends.1 (omega (arith, same))) (rows-taken form es (e.number + 1) n ascends.1)

@@ -1,6 +1,7 @@
 -- Laws of the listing.
 use Rattle.std.specs.Prelude.{◌≡◌, ℕ, List}
 use Rattle.std.specs.List.Sorted.{IsStrictlySortedBy}
+use Rattle.arch_base.specs.declared.ids.Form.{Form}
 use Rattle.mail_forms.specs.declared.row.Row.{Row}
 use Rattle.arch_model.specs.Archives.{Entry}
 use Rattle.arch_model.specs.Listings.{rows_of, listing as listed}
@@ -21,4 +22,4 @@ SpotsAreInOrder = (rows : List (ℕ × Row)) → AreSpots rows (spots rows)
 
 -- The listing of the rows of messages is the listing of the messages.
 abbrev pub ListingIsTheArchives : Type 0
-ListingIsTheArchives = (es : List Entry) → listing (rows_of es) ≡ listed es
+ListingIsTheArchives = (form : Form) (es : List Entry) → listing (rows_of form es) ≡ listed es

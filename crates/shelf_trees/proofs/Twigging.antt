@@ -1,29 +1,44 @@
 -- The messages of numbers, one after another.
-use Rattle.std.specs.Prelude.{◌≡◌, ◌+◌, ◌<◌, ◌≤◌, ℕ, Bool, true, false, List, [], ◌∷◌, ◌++◌, length, drop, get_or, Result, Ok, Err, OnOk, if◌then◌else◌}
+use Rattle.std.specs.Prelude.{◌≡◌, ◌==◌, ◌+◌, ◌<◌, ◌≤◌, ℕ, Bool, true, false, List, [], ◌∷◌, ◌++◌, length, drop, get_or, Some, refl, Result, Ok, Err, OnOk, if◌then◌else◌}
 use Rattle.std.specs.Bool.{MatchBool}
 use Rattle.std.specs.Str.{bytes_eq}
 use Rattle.std.proofs.Common.{◌∙◌, sym, ap}
 use Rattle.std.proofs.lemmas.Bool.{false≢true}
 use Rattle.std.proofs.lemmas.List.{at_drop_more, at_drop_all}
 use Rattle.std.proofs.lemmas.Slice.Eq.{bytes_eq-Decides}
+use Rattle.arch_base.specs.declared.ids.Form.{Form}
 use Rattle.thread_model.specs.Members.{Among}
 use Rattle.thread_model.proofs.Members.{among-any, none-any}
 use Rattle.arch_model.specs.Archives.{Entry}
-use Rattle.arch_model.specs.Listings.{row_in}
+use Rattle.arch_model.specs.Listings.{row_at, row_in}
+use Rattle.arch_model.specs.Rows.{row_of}
 use Rattle.arch_model.specs.Threading.{thread_in}
 use Rattle.thread_tree.specs.Trees.{names_id}
 use Rattle.thread_tree.specs.declared.twigs.Twig.{Twig}
-use Rattle.shelf_trees.specs.Twigs.{with_twig, with_row, twigs_after, thread_twigs}
+use Rattle.shelf_trees.specs.Twigs.{twig_of, twig_at, twig_in, with_twig, with_row, with_found, twigs_after, thread_twigs}
 
 -- No number yet.
 pub twigs-begin : (es : List Entry) (twigs : List Twig) (ns : List ℕ) → twigs ≡ [] → twigs_after es twigs (drop 0 ns) ≡ twigs_after es [] ns
 twigs-begin es twigs [] none = none
 twigs-begin es twigs (n ∷ ns) none = ap (λ (ts : List Twig). twigs_after es ts (n ∷ ns)) none
 
+-- The message of a row is its entry's, whichever form the ids have.
+row-twig : (form : Form) (e : Entry) → twig_of (row_at form e) ≡ twig_at e
+unfolding row_of
+row-twig form e = refl
+
+row-found : (form : Form) (es : List Entry) (n : ℕ) (ts : List Twig) → with_row ts (row_in form es n) ≡ with_found ts (twig_in es n)
+row-found form [] n ts = refl
+row-found form (e ∷ es) n ts = step (e.number == n) (row-found form es n ts) where
+  step : (t : Bool) → with_row ts (row_in form es n) ≡ with_found ts (twig_in es n)
+      → with_row ts (if t then Some (row_at form e) else row_in form es n) ≡ with_found ts (if t then Some (twig_at e) else twig_in es n)
+  step true rest = ap (with_twig ts) (row-twig form e)
+  step false rest = rest
+
 -- One number more.
-pub twigs-more : (es : List Entry) (old new all : List Twig) (ns : List ℕ) (i d : ℕ) → i < length ns → new ≡ with_row old (row_in es (get_or ns i d)) → twigs_after es old (drop i ns) ≡ all → twigs_after es new (drop (i + 1) ns) ≡ all
-twigs-more es old new all ns i d below is so_far =
-    ap (λ (ts : List Twig). twigs_after es ts (drop (i + 1) ns)) is
+pub twigs-more : (form : Form) (es : List Entry) (old new all : List Twig) (ns : List ℕ) (i d : ℕ) → i < length ns → new ≡ with_row old (row_in form es (get_or ns i d)) → twigs_after es old (drop i ns) ≡ all → twigs_after es new (drop (i + 1) ns) ≡ all
+twigs-more form es old new all ns i d below is so_far =
+    ap (λ (ts : List Twig). twigs_after es ts (drop (i + 1) ns)) (is ∙ row-found form es (get_or ns i d) old)
     ∙ sym (at_drop_more (twigs_after es old) ns i d below)
     ∙ so_far
 

@@ -35,7 +35,7 @@ pub fn twigs_of<S: Shelf>(alloc: Global, n: u32, shelf: &S) -> Result<Twigs, NoM
 fn add_number<S: Shelf>(n: u32, shelf: &S, twigs: &mut Twigs) -> Result<(), NoMemory>
     requires { S.ready shelf.now ≡ true }
     ensures { (a : Archive) → S.holds shelf.now a
-        → OnOk result (twigs.new ≡ with_row twigs.old (row_in (live a.entries) n)) }
+        → OnOk result (twigs.new ≡ with_row twigs.old (row_in a.config.form (live a.entries) n)) }
 {
     match shelf.row(n) {
         Some(row) => add_twig(row, twigs),

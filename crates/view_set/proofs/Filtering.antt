@@ -12,6 +12,7 @@ use Rattle.std.proofs.lemmas.List.{reverse-append}
 use Rattle.std.proofs.lemmas.List.Elements.{filter-append}
 use Rattle.std.proofs.lemmas.Map.Keys.{sorted_head, sorted_tail}
 use Rattle.query_lang.specs.declared.query.Query.{Query}
+use Rattle.arch_base.specs.declared.ids.Form.{Form}
 use Rattle.arch_model.specs.Archives.{Entry, live}
 use Rattle.arch_model.specs.Listings.{row_at, rows_of, listing as listed}
 use Rattle.arch_model.specs.Searching.{is_match, matches_at, search}
@@ -76,24 +77,24 @@ module _ (test : Spot → Bool) where
           ∙ greater-step (test k) (test x) k x (filter test xs) f
 
 -- The spots of the messages that match are those of all that pass the test for their numbers.
-module _ (query : Query) (matched : ℕ → Bool) where
+module _ (form : Form) (query : Query) (matched : ℕ → Bool) where
   abbrev at_spot : Spot → Bool
   at_spot spot = matched spot.number
 
-  spots-matched : (es : List Entry) → AllByRecursion (λ (e : Entry). matched e.number ≡ is_match query e) es → spots (rows_of (filter (is_match query) es)) ≡ filter at_spot (spots (rows_of es))
+  spots-matched : (es : List Entry) → AllByRecursion (λ (e : Entry). matched e.number ≡ is_match query e) es → spots (rows_of form (filter (is_match query) es)) ≡ filter at_spot (spots (rows_of form es))
   spots-matched [] all = refl
   spots-matched (e ∷ es) all =
-      step (is_match query e) (ap matched (row-number e.number e.text e.moment) ∙ all.0) (spots-matched es all.1)
-      ∙ sym (filter-insert at_spot (spots (rows_of es)) (spot_of (row_at e)) (are-spots (rows_of es)).rise)
+      step (is_match query e) (ap matched (row-number form e.number e.text e.moment) ∙ all.0) (spots-matched es all.1)
+      ∙ sym (filter-insert at_spot (spots (rows_of form es)) (spot_of (row_at form e)) (are-spots (rows_of form es)).rise)
     where
-      step : (t : Bool) → matched (row_at e).number ≡ t → spots (rows_of (filter (is_match query) es)) ≡ filter at_spot (spots (rows_of es))
-          → spots (rows_of (if t then e ∷ filter (is_match query) es else filter (is_match query) es))
-          ≡ (if matched (row_at e).number then insert_key spot_cmp (filter at_spot (spots (rows_of es))) (spot_of (row_at e)) else filter at_spot (spots (rows_of es)))
+      step : (t : Bool) → matched (row_at form e).number ≡ t → spots (rows_of form (filter (is_match query) es)) ≡ filter at_spot (spots (rows_of form es))
+          → spots (rows_of form (if t then e ∷ filter (is_match query) es else filter (is_match query) es))
+          ≡ (if matched (row_at form e).number then insert_key spot_cmp (filter at_spot (spots (rows_of form es))) (spot_of (row_at form e)) else filter at_spot (spots (rows_of form es)))
       step true is ih =
-          ap (λ (ss : List Spot). insert_key spot_cmp ss (spot_of (row_at e))) ih
-          ∙ ap (λ (t : Bool). if t then insert_key spot_cmp (filter at_spot (spots (rows_of es))) (spot_of (row_at e)) else filter at_spot (spots (rows_of es))) (sym is)
+          ap (λ (ss : List Spot). insert_key spot_cmp ss (spot_of (row_at form e))) ih
+          ∙ ap (λ (t : Bool). if t then insert_key spot_cmp (filter at_spot (spots (rows_of form es))) (spot_of (row_at form e)) else filter at_spot (spots (rows_of form es))) (sym is)
       step false is ih =
-          ih ∙ ap (λ (t : Bool). if t then insert_key spot_cmp (filter at_spot (spots (rows_of es))) (spot_of (row_at e)) else filter at_spot (spots (rows_of es))) (sym is)
+          ih ∙ ap (λ (t : Bool). if t then insert_key spot_cmp (filter at_spot (spots (rows_of form es))) (spot_of (row_at form e)) else filter at_spot (spots (rows_of form es))) (sym is)
 
 -- A test for numbers goes on through their reading and their reversal.
 filter-numbers : (test : ℕ → Bool) (xs : List Spot) → filter test (map number_at xs) ≡ map number_at (filter (λ (s : Spot). test s.number) xs)
@@ -135,17 +136,17 @@ matches-own query low (e ∷ es) ascends = (
   matches_later query e es es (e.number + 1) (omega arith) ascends.1 (matches-own query (e.number + 1) es ascends.1),
 )
 
-pub filtered : (query : Query) (es : List Entry) → Ascends 1 es → search query es ≡ filter (matches_at query es) (listed es)
+pub filtered : (form : Form) (query : Query) (es : List Entry) → Ascends 1 es → search query es ≡ filter (matches_at query es) (listed es)
 unfolding search listing
-filtered query es ascends =
+filtered form query es ascends =
     let test = matches_at query es in
-    let all = spots (rows_of es) in
-    let some = spots-matched query test es (matches-own query 1 es ascends) in
-    sym (listing-is (filter (is_match query) es))
+    let all = spots (rows_of form es) in
+    let some = spots-matched form query test es (matches-own query 1 es ascends) in
+    sym (listing-is form (filter (is_match query) es))
     ∙ ap (λ (ss : List Spot). map number_at (reverse ss)) some
     ∙ ap (map number_at) (sym (filter-turned (λ (s : Spot). test s.number) all))
     ∙ sym (filter-numbers test (reverse all))
-    ∙ ap (filter test) (listing-is es)
+    ∙ ap (filter test) (listing-is form es)
 
 pub search-filters : SearchFiltersTheListing
-search-filters query a valid = filtered query (live a.entries) (live-ascends 1 0 a.entries valid.order)
+search-filters query a valid = filtered a.config.form query (live a.entries) (live-ascends 1 0 a.entries valid.order)

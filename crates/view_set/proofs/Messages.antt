@@ -6,6 +6,7 @@ use Rattle.std.specs.BTreeMap.{is_at}
 use Rattle.std.specs.Map.{lookup}
 use Rattle.std.proofs.Common.{◌∙◌, sym, ap, cond}
 use Rattle.std.proofs.lemmas.Bool.{false≢true, eqb-true, eq-eqb}
+use Rattle.arch_base.specs.declared.ids.Form.{Form}
 use Rattle.arch_model.specs.Archives.{Entry}
 use Rattle.arch_model.specs.Listings.{row_at, rows_of}
 use Rattle.arch_model.specs.Threading.{thread_in as threaded, keyed as keyed_messages, keys_in, keys_of as keys_at}
@@ -15,11 +16,11 @@ use Rattle.thread_model.proofs.Entries.{at-eqb}
 use Rattle.thread_index.specs.Index.{keys_of_row}
 use Rattle.view_set.specs.Threads.{keyed, thread_in}
 
-pub keyed-are : (es : List Entry) → keyed (rows_of es) ≡ keyed_messages es
-keyed-are [] = refl
-keyed-are (e ∷ es) =
-    ap (λ (rs : List Keyed). (e.number, (row_at e).id ∷ (row_at e).refs) ∷ rs) (keyed-are es)
-    ∙ ap (λ (keys : List (List ℕ)). (e.number, keys) ∷ keyed_messages es) (row-keys e)
+pub keyed-are : (form : Form) (es : List Entry) → keyed (rows_of form es) ≡ keyed_messages es
+keyed-are form [] = refl
+keyed-are form (e ∷ es) =
+    ap (λ (rs : List Keyed). (e.number, (row_at form e).id ∷ (row_at form e).refs) ∷ rs) (keyed-are form es)
+    ∙ ap (λ (keys : List (List ℕ)). (e.number, keys) ∷ keyed_messages es) (row-keys form e)
 
 -- Equality of numbers goes both ways.
 turned : (n m : ℕ) → (n == m) ≡ (m == n)
@@ -40,8 +41,8 @@ keys-are : (es : List Entry) (n : ℕ) → keys_of_row (keyed_messages es) n ≡
 keys-are [] n = refl
 keys-are (e ∷ es) n = keys_step (is_at (nat_cmp n) e.number) (e.number == n) (keys_at e) (keys_in es n) (lookup (is_at (nat_cmp n)) (keyed_messages es)) (at-eqb n e.number ∙ turned n e.number) (keys-are es n)
 
-pub threads-are : (es : List Entry) (n : ℕ) → thread_in (rows_of es) n ≡ threaded es n
+pub threads-are : (form : Form) (es : List Entry) (n : ℕ) → thread_in (rows_of form es) n ≡ threaded es n
 unfolding thread_in threaded
-threads-are es n =
-    ap (λ (rs : List Keyed). map (λ (row : Keyed). row.0) (thread rs (keys_of_row rs n))) (keyed-are es)
+threads-are form es n =
+    ap (λ (rs : List Keyed). map (λ (row : Keyed). row.0) (thread rs (keys_of_row rs n))) (keyed-are form es)
     ∙ ap (λ (keys : List (List ℕ)). map (λ (row : Keyed). row.0) (thread (keyed_messages es) keys)) (keys-are es n)

@@ -5,22 +5,22 @@ use Rattle.std.specs.Option.{option_map_or}
 use Rattle.std.proofs.Common.{◌∙◌, sym, ap, cond, arith, length-drop}
 use Rattle.std.proofs.Math.Seq.{take-add}
 use Rattle.std.proofs.lemmas.Bool.{eqb-true, eqb-false}
-use Rattle.mime_parts.specs.Words.{mail_words}
 use Rattle.std.proofs.lemmas.List.{take-append-drop, take-append-le, drop-append-le}
 use Rattle.std.proofs.lemmas.List.Elements.{filter-append, filter_agree}
 use Rattle.query_lang.specs.declared.query.Query.{Query}
 use Rattle.query_lang.specs.Matching.{matches}
+use Rattle.arch_base.specs.declared.ids.Form.{Form}
 use Rattle.arch_model.specs.Archives.{Entry, live}
-use Rattle.arch_model.specs.Listings.{row_at, listing as listed}
+use Rattle.arch_model.specs.Listings.{listing as listed}
 use Rattle.arch_model.specs.Searching.{is_match, matches_at, search}
 use Rattle.arch_model.specs.Validity.{Rise}
 use Rattle.overview_index.specs.Listings.{listing}
 use Rattle.overview_index.proofs.Messages.{listing-is}
 use Rattle.thread_model.proofs.Entries.{true-at, false-at}
 use Rattle.word_index.specs.Rows.{WordRow as Worded, row_at as row_in_words, matching}
-use Rattle.view_set.specs.Viewed.{Viewed, worded_by, worded_of, views_of, searched, IsFrontFound}
+use Rattle.view_set.specs.Viewed.{Viewed, worded_at, worded_of, views_of, searched, IsFrontFound}
 use Rattle.view_set.proofs.Filtering.{filtered}
-use Rattle.view_set.proofs.Searching.{row-match, searched-is}
+use Rattle.view_set.proofs.Searching.{searched-is}
 use Rattle.view_set.proofs.Walking.{live-ascends}
 
 -- Some further rows of the listing were looked at.
@@ -47,25 +47,25 @@ matching-at query [] n = refl
 matching-at query (e ∷ es) n = step (e.number == n) refl (matching-at query es n)
   where
     chosen : Bool → Bool
-    chosen t = option_map_or (λ (row : Worded). matches query row.words row.day) (cond t (Some (worded_by (row_at e) (mail_words e.text))) (row_in_words (worded_of es) n)) false
+    chosen t = option_map_or (λ (row : Worded). matches query row.words row.day) (cond t (Some (worded_at e)) (row_in_words (worded_of es) n)) false
 
     step : (t : Bool) → (e.number == n) ≡ t → matching query (worded_of es) n ≡ matches_at query es n → matching query (worded_of (e ∷ es)) n ≡ (if t then is_match query e else matches_at query es n)
-    step true is ih = ap chosen (true-at n e.number (sym (eqb-true e.number n is))) ∙ row-match query e
+    step true is ih = ap chosen (true-at n e.number (sym (eqb-true e.number n is)))
     step false is ih = ap chosen (false-at n e.number (λ same. eqb-false e.number n is (sym same))) ∙ ih
 
 -- So a page of those is one of the search, where the rows are those of live messages.
 pub page-of-front : (query : Query) (v : Viewed) (numbers page : List ℕ) (skip count : ℕ) → IsFrontFound query v numbers → skip + count ≤ length numbers → page ≡ take count (drop skip numbers)
-    → (entries : List Entry) → Rise 1 0 entries → v ≡ views_of (live entries) → page ≡ take count (drop skip (search query (live entries)))
-page-of-front query v numbers page skip count front long is entries ordered same =
+    → (form : Form) (entries : List Entry) → Rise 1 0 entries → v ≡ views_of form (live entries) → page ≡ take count (drop skip (search query (live entries)))
+page-of-front query v numbers page skip count front long is form entries ordered same =
     let es = live entries in
     let test = matching query (worded_of es) in
-    let all : listing v.rows ≡ listed es = ap (λ (w : Viewed). listing w.rows) same ∙ listing-is es in
+    let all : listing v.rows ≡ listed es = ap (λ (w : Viewed). listing w.rows) same ∙ listing-is form es in
     let are : numbers ≡ filter test (take front.count (listed es)) =
     front.are ∙ ap (λ (w : Viewed). filter (matching query w.words) (take front.count (listing v.rows))) same ∙ ap (λ (ns : List ℕ). filter test (take front.count ns)) all in
     front-page test (listed es) numbers page front.count skip count are long is
-    ∙ ap (λ (ns : List ℕ). take count (drop skip ns)) (filter_agree test (matches_at query es) (matching-at query es) (listed es) ∙ sym (filtered query es (live-ascends 1 0 entries ordered)))
+    ∙ ap (λ (ns : List ℕ). take count (drop skip ns)) (filter_agree test (matches_at query es) (matching-at query es) (listed es) ∙ sym (filtered form query es (live-ascends 1 0 entries ordered)))
 
 -- All that is found is what the search gives.
-pub searched-ordered : (query : Query) (entries : List Entry) → Rise 1 0 entries → searched query (views_of (live entries)) ≡ search query (live entries)
-searched-ordered query entries ordered =
-    searched-is query (live entries) (live-ascends 1 0 entries ordered)
+pub searched-ordered : (form : Form) (query : Query) (entries : List Entry) → Rise 1 0 entries → searched query (views_of form (live entries)) ≡ search query (live entries)
+searched-ordered form query entries ordered =
+    searched-is form query (live entries) (live-ascends 1 0 entries ordered)

@@ -4,9 +4,8 @@ use Rattle.std.specs.List.{AllByRecursion, filter}
 use Rattle.std.specs.Ordering.{nat_cmp}
 use Rattle.std.specs.BTreeMap.{is_at}
 use Rattle.std.proofs.Common.{◌∙◌, ap, cond, arith}
+use Rattle.arch_base.specs.declared.ids.Form.{Form}
 use Rattle.mail_forms.specs.declared.row.Row.{Row}
-use Rattle.mime_parts.specs.Words.{mail_words}
-use Rattle.query_lang.specs.Dates.{utc_day}
 use Rattle.query_lang.specs.Matching.{matches}
 use Rattle.query_lang.specs.declared.query.Query.{Query}
 use Rattle.arch_model.specs.Archives.{Archive, Entry, live}
@@ -14,10 +13,10 @@ use Rattle.arch_model.specs.Listings.{row_at, rows_of}
 use Rattle.arch_model.specs.Searching.{is_match, search}
 use Rattle.arch_model.specs.Validity.{IsArchive}
 use Rattle.overview_index.specs.Listings.{row_in, under, rows_numbered, listing}
-use Rattle.overview_index.proofs.Messages.{Ascends, listing-is, row-date}
+use Rattle.overview_index.proofs.Messages.{Ascends, listing-is}
 use Rattle.thread_model.proofs.Entries.{true-at, false-at}
 use Rattle.word_index.specs.Rows.{WordRow as Worded, found}
-use Rattle.view_set.specs.Viewed.{worded_by, worded_of, views_of, searched}
+use Rattle.view_set.specs.Viewed.{worded_at, worded_of, views_of, searched}
 use Rattle.view_set.proofs.Walking.{live-ascends}
 
 -- The numbers of messages.
@@ -30,53 +29,48 @@ matched_step : (t : Bool) (e : Entry) (word : Worded) (words : List (ℕ × Word
 matched_step true e word words es is = ap (λ (ns : List ℕ). e.number ∷ ns) is
 matched_step false e word words es is = is
 
--- A row matches where its message does.
-pub row-match : (query : Query) (e : Entry) → matches query (mail_words e.text) (utc_day (row_at e).date) ≡ is_match query e
-row-match query e = ap (λ date. matches query (mail_words e.text) (utc_day date)) (row-date e)
-
 found-is : (query : Query) (es : List Entry) → found query (worded_of es) ≡ numbers_of (filter (is_match query) es)
 found-is query [] = refl
 found-is query (e ∷ es) =
-    matched_step (matches query (mail_words e.text) (utc_day (row_at e).date)) e (worded_by (row_at e) (mail_words e.text)) (filter (λ (w : ℕ × Worded). matches query w.1.words w.1.day) (worded_of es)) (filter (is_match query) es) (found-is query es)
-    ∙ ap (λ (t : Bool). numbers_of (if t then e ∷ filter (is_match query) es else filter (is_match query) es)) (row-match query e)
+    matched_step (is_match query e) e (worded_at e) (filter (λ (w : ℕ × Worded). matches query w.1.words w.1.day) (worded_of es)) (filter (is_match query) es) (found-is query es)
 
 -- Each message is found by its number.
-abbrev IsFound : List (ℕ × Row) → Entry → Type 0
-IsFound rows e = row_in rows e.number ≡ Some (row_at e)
+abbrev IsFound : Form → List (ℕ × Row) → Entry → Type 0
+IsFound form rows e = row_in rows e.number ≡ Some (row_at form e)
 
-found_later : (e : Entry) (rows : List (ℕ × Row)) (es : List Entry) (low : ℕ) → e.number < low → Ascends low es → AllByRecursion (IsFound rows) es → let more : List (ℕ × Row) = (e.number, row_at e) ∷ rows in AllByRecursion (IsFound more) es
-found_later e rows [] low less ascends all = tt
-found_later e rows (x ∷ es) low less ascends all =
+found_later : (form : Form) (e : Entry) (rows : List (ℕ × Row)) (es : List Entry) (low : ℕ) → e.number < low → Ascends low es → AllByRecursion (IsFound form rows) es → let more : List (ℕ × Row) = (e.number, row_at form e) ∷ rows in AllByRecursion (IsFound form more) es
+found_later form e rows [] low less ascends all = tt
+found_later form e rows (x ∷ es) low less ascends all =
     let above : low ≤ x.number = ascends.0 in
     let other : is_at (nat_cmp x.number) e.number ≡ false = false-at x.number e.number (λ (same : x.number ≡ e.number). omega (arith, above, less, same)) in
-    (ap (λ (t : Bool). cond t (Some (row_at e)) (row_in rows x.number)) other ∙ all.0, found_later e rows es (x.number + 1) (omega (arith, above, less)) ascends.1 all.1)
+    (ap (λ (t : Bool). cond t (Some (row_at form e)) (row_in rows x.number)) other ∙ all.0, found_later form e rows es (x.number + 1) (omega (arith, above, less)) ascends.1 all.1)
 
-all-found : (low : ℕ) (es : List Entry) → Ascends low es → AllByRecursion (IsFound (rows_of es)) es
-all-found low [] ascends = tt
-all-found low (e ∷ es) ascends = (
-  ap (λ (t : Bool). cond t (Some (row_at e)) (row_in (rows_of es) e.number)) (true-at e.number e.number refl),
-  found_later e (rows_of es) es (e.number + 1) (omega arith) ascends.1 (all-found (e.number + 1) es ascends.1),
+all-found : (form : Form) (low : ℕ) (es : List Entry) → Ascends low es → AllByRecursion (IsFound form (rows_of form es)) es
+all-found form low [] ascends = tt
+all-found form low (e ∷ es) ascends = (
+  ap (λ (t : Bool). cond t (Some (row_at form e)) (row_in (rows_of form es) e.number)) (true-at e.number e.number refl),
+  found_later form e (rows_of form es) es (e.number + 1) (omega arith) ascends.1 (all-found form (e.number + 1) es ascends.1),
 )
 
 -- So the rows of the numbers of some of them are theirs.
-rows_step : (t : Bool) (rows : List (ℕ × Row)) (e : Entry) (es : List Entry) → IsFound rows e → rows_numbered rows (numbers_of es) ≡ rows_of es
-    → rows_numbered rows (numbers_of (if t then e ∷ es else es)) ≡ rows_of (if t then e ∷ es else es)
-rows_step true rows e es found ih =
+rows_step : (form : Form) (t : Bool) (rows : List (ℕ × Row)) (e : Entry) (es : List Entry) → IsFound form rows e → rows_numbered rows (numbers_of es) ≡ rows_of form es
+    → rows_numbered rows (numbers_of (if t then e ∷ es else es)) ≡ rows_of form (if t then e ∷ es else es)
+rows_step form true rows e es found ih =
     ap (λ (row : Option Row). under e.number row ++ rows_numbered rows (numbers_of es)) found
-    ∙ ap (λ (rs : List (ℕ × Row)). (e.number, row_at e) ∷ rs) ih
-rows_step false rows e es found ih = ih
+    ∙ ap (λ (rs : List (ℕ × Row)). (e.number, row_at form e) ∷ rs) ih
+rows_step form false rows e es found ih = ih
 
-rows-matched : (query : Query) (rows : List (ℕ × Row)) (es : List Entry) → AllByRecursion (IsFound rows) es → rows_numbered rows (numbers_of (filter (is_match query) es)) ≡ rows_of (filter (is_match query) es)
-rows-matched query rows [] all = refl
-rows-matched query rows (e ∷ es) all =
-    rows_step (is_match query e) rows e (filter (is_match query) es) all.0 (rows-matched query rows es all.1)
+rows-matched : (form : Form) (query : Query) (rows : List (ℕ × Row)) (es : List Entry) → AllByRecursion (IsFound form rows) es → rows_numbered rows (numbers_of (filter (is_match query) es)) ≡ rows_of form (filter (is_match query) es)
+rows-matched form query rows [] all = refl
+rows-matched form query rows (e ∷ es) all =
+    rows_step form (is_match query e) rows e (filter (is_match query) es) all.0 (rows-matched form query rows es all.1)
 
-pub searched-is : (query : Query) (es : List Entry) → Ascends 1 es → searched query (views_of es) ≡ search query es
+pub searched-is : (form : Form) (query : Query) (es : List Entry) → Ascends 1 es → searched query (views_of form es) ≡ search query es
 unfolding search
-searched-is query es ascends =
-    ap (λ (ns : List ℕ). listing (rows_numbered (rows_of es) ns)) (found-is query es)
-    ∙ ap listing (rows-matched query (rows_of es) es (all-found 1 es ascends))
-    ∙ listing-is (filter (is_match query) es)
+searched-is form query es ascends =
+    ap (λ (ns : List ℕ). listing (rows_numbered (rows_of form es) ns)) (found-is query es)
+    ∙ ap listing (rows-matched form query (rows_of form es) es (all-found form 1 es ascends))
+    ∙ listing-is form (filter (is_match query) es)
 
-pub search-is : (query : Query) (a : Archive) → IsArchive a → searched query (views_of (live a.entries)) ≡ search query (live a.entries)
-search-is query a valid = searched-is query (live a.entries) (live-ascends 1 0 a.entries valid.order)
+pub search-is : (form : Form) (query : Query) (a : Archive) → IsArchive a → searched query (views_of form (live a.entries)) ≡ search query (live a.entries)
+search-is form query a valid = searched-is form query (live a.entries) (live-ascends 1 0 a.entries valid.order)

@@ -5,11 +5,13 @@ use Rattle.std.proofs.lemmas.Option.{same_Some}
 use Rattle.git_objects.specs.declared.entry_kind.EntryKind.{EntryKind}
 use Rattle.git_objects.specs.declared.entry_kind.EntryKind.TheVariants.{Message, Deletion}
 use Rattle.mime_parts.specs.Words.{mail_words}
+use Rattle.arch_base.specs.declared.ids.Form.{Form}
+use Rattle.git_objects.specs.Objects.{blob_id_of}
 use Rattle.arch_model.specs.Archives.{Entry, Archive, message, deletion, is_message, is_ended, live}
 use Rattle.arch_model.specs.Rows.{row_of}
 use Rattle.arch_model.specs.Shelves.{line_after, lines_after, line_at}
 use Rattle.arch_model.specs.Validity.{IsArchive, NumberIsFrom, Rise, number_after}
-use Rattle.arch_model.specs.Walking.{GivesLine, WalksOn}
+use Rattle.arch_model.specs.Walking.{GivesLine, HasTextAt, WalksOn}
 use Rattle.arch_model.specs.declared.text_refusal.TextRefusal.{TextRefusal}
 use Rattle.arch_model.specs.declared.text_refusal.TextRefusal.TheVariants as refusal
 use Rattle.arch_model.specs.declared.line.EntryLine.{EntryLine}
@@ -44,19 +46,26 @@ take-zero [] = refl
 take-zero (e ∷ es) = refl
 
 -- The entry of a line.
-pub record IsLineOf (es : List Entry) (i : ℕ) (line : EntryLine) : Type 0 where
+pub record IsLineOf (form : Form) (es : List Entry) (i : ℕ) (line : EntryLine) : Type 0 where
   pub entry : Entry
   pub there : slice_get es i ≡ Some entry
   pub kind : entry.kind ≡ line.kind
   pub number : entry.number ≡ line.number
   pub secs : entry.moment ≡ line.secs
+  pub blob : blob_id_of form entry.text ≡ line.blob
 
-pub line-entry : (before es : List Entry) (i : ℕ) (line : EntryLine) → slice_get (lines_after before es) i ≡ Some line → IsLineOf es i line
-line-entry before [] i line is = absurd (cc)
-line-entry before (e ∷ es) zero line is =
-    let same : line_after before e ≡ line = same_Some (line_after before e) line is in
-    record { entry = e; there = refl; kind = ap (λ (l : EntryLine). l.kind) same; number = ap (λ (l : EntryLine). l.number) same; secs = ap (λ (l : EntryLine). l.secs) same }
-line-entry before (e ∷ es) (suc i) line is = let rest = line-entry (before ++ e ∷ []) es i line is in record { entry = rest.entry; there = rest.there; kind = rest.kind; number = rest.number; secs = rest.secs }
+pub line-entry : (form : Form) (before es : List Entry) (i : ℕ) (line : EntryLine) → slice_get (lines_after form before es) i ≡ Some line → IsLineOf form es i line
+line-entry form before [] i line is = absurd (cc)
+line-entry form before (e ∷ es) zero line is =
+    let same : line_after form before e ≡ line = same_Some (line_after form before e) line is in
+    record { entry = e; there = refl; kind = ap (λ (l : EntryLine). l.kind) same; number = ap (λ (l : EntryLine). l.number) same; secs = ap (λ (l : EntryLine). l.secs) same; blob = ap (λ (l : EntryLine). l.blob) same }
+line-entry form before (e ∷ es) (suc i) line is = let rest = line-entry form (before ++ e ∷ []) es i line is in record { entry = rest.entry; there = rest.there; kind = rest.kind; number = rest.number; secs = rest.secs; blob = rest.blob }
+
+-- The blob id of a line is that of its entry's text.
+pub line-blob : (form : Form) (es : List Entry) (i : ℕ) (line : EntryLine) (text : List ℕ) → line_at form es i ≡ Some line → HasTextAt es i text → line.blob ≡ blob_id_of form text
+line-blob form es i line text is has =
+    let at = line-entry form [] es i line is in
+    sym at.blob ∙ ap (λ (f : Entry). blob_id_of form f.text) (same_Some at.entry has.0 (sym at.there ∙ has.1)) ∙ ap (blob_id_of form) has.2
 
 -- One entry more.
 pub take-more : (es : List Entry) (i : ℕ) (e : Entry) → slice_get es i ≡ Some e → take (i + 1) es ≡ take i es ++ e ∷ []
@@ -64,11 +73,11 @@ take-more [] i e there = absurd (cc)
 take-more (x ∷ es) zero e there = ap (λ (y : Entry). y ∷ []) (same_Some x e there)
 take-more (x ∷ es) (suc i) e there = let on : suc i + 1 ≡ suc (i + 1) = omega arith in rw on (ap (λ (l : List Entry). x ∷ l) (take-more es i e there))
 
-pub take-all : (before es : List Entry) (i : ℕ) → slice_get (lines_after before es) i ≡ None → take i es ≡ es
-take-all before [] zero none = refl
-take-all before [] (suc i) none = refl
-take-all before (e ∷ es) zero none = absurd (cc)
-take-all before (e ∷ es) (suc i) none = ap (λ (l : List Entry). e ∷ l) (take-all (before ++ e ∷ []) es i none)
+pub take-all : (form : Form) (before es : List Entry) (i : ℕ) → slice_get (lines_after form before es) i ≡ None → take i es ≡ es
+take-all form before [] zero none = refl
+take-all form before [] (suc i) none = refl
+take-all form before (e ∷ es) zero none = absurd (cc)
+take-all form before (e ∷ es) (suc i) none = ap (λ (l : List Entry). e ∷ l) (take-all form (before ++ e ∷ []) es i none)
 
 pub rise-take : (number epoch i : ℕ) (es : List Entry) → Rise number epoch es → Rise number epoch (take i es)
 rise-take number epoch zero [] rise = tt
@@ -91,10 +100,10 @@ as_deletion : (e : Entry) → e.kind ≡ Deletion → e ≡ deletion e.number e.
 as_deletion e is = ap (λ (k : EntryKind). let f : Entry = record { kind = k; number = e.number; epoch = e.epoch; text = e.text; moment = e.moment } in f) is
 
 -- The views with one message more.
-pub views-message : (a : Archive) (i : ℕ) (line : EntryLine) (old new : Viewed) → IsArchive a → line_at a.entries i ≡ Some line → line.kind ≡ Message → old ≡ views_of (live (take i a.entries)) → AddsRowAt a.entries i line.number line.secs old new
-    → new ≡ views_of (live (take (i + 1) a.entries))
+pub views-message : (a : Archive) (i : ℕ) (line : EntryLine) (old new : Viewed) → IsArchive a → line_at a.config.form a.entries i ≡ Some line → line.kind ≡ Message → old ≡ views_of a.config.form (live (take i a.entries)) → AddsRowAt a.config.form a.entries i line.number line.secs old new
+    → new ≡ views_of a.config.form (live (take (i + 1) a.entries))
 views-message a i line old new valid is kind old_is adds =
-    let at = line-entry [] a.entries i line is in
+    let at = line-entry a.config.form [] a.entries i line is in
     let e : Entry = at.entry in
     let more : take (i + 1) a.entries ≡ take i a.entries ++ e ∷ [] = take-more a.entries i e at.there in
     let one : e ≡ message e.number e.epoch e.text e.moment = as_message e (at.kind ∙ kind) in
@@ -102,20 +111,20 @@ views-message a i line old new valid is kind old_is adds =
     ap (λ (f : Entry). live (take i a.entries ++ f ∷ [])) one ∙ live-message (take i a.entries) e.number e.epoch e.text e.moment ∙ ap (λ (f : Entry). live (take i a.entries) ++ f ∷ []) (sym one) in
     let rise : Ascends 1 (live (take i a.entries) ++ e ∷ []) = subst (λ (l : List Entry). Ascends 1 l) (ap live more ∙ grows) (live-ascends 1 0 (take (i + 1) a.entries) (rise-take 1 0 (i + 1) a.entries valid.order)) in
     let text_is : adds.0 ≡ e.text = sym adds.1.2 ∙ ap (λ (f : Entry). f.text) (same_Some adds.1.0 e (sym adds.1.1 ∙ at.there)) in
-    let before : Viewed = views_of (live (take i a.entries)) in
+    let before : Viewed = views_of a.config.form (live (take i a.entries)) in
     adds.2
-    ∙ ap (λ (v : Viewed). with_mail v (row_of line.number adds.0 line.secs) (mail_words adds.0)) old_is
-    ∙ ap (λ n. with_mail before (row_of n adds.0 line.secs) (mail_words adds.0)) (sym at.number)
-    ∙ ap (λ t. with_mail before (row_of e.number t line.secs) (mail_words t)) text_is
-    ∙ ap (λ m. with_mail before (row_of e.number e.text m) (mail_words e.text)) (sym at.secs)
-    ∙ mails-added (live (take i a.entries)) e (last_above 1 (live (take i a.entries)) e rise).1
-    ∙ ap views_of (sym (ap live more ∙ grows))
+    ∙ ap (λ (v : Viewed). with_mail v (row_of a.config.form line.number adds.0 line.secs) (mail_words adds.0)) old_is
+    ∙ ap (λ n. with_mail before (row_of a.config.form n adds.0 line.secs) (mail_words adds.0)) (sym at.number)
+    ∙ ap (λ t. with_mail before (row_of a.config.form e.number t line.secs) (mail_words t)) text_is
+    ∙ ap (λ m. with_mail before (row_of a.config.form e.number e.text m) (mail_words e.text)) (sym at.secs)
+    ∙ mails-added a.config.form (live (take i a.entries)) e (last_above 1 (live (take i a.entries)) e rise).1
+    ∙ ap (views_of a.config.form) (sym (ap live more ∙ grows))
 
 -- And with one deletion more.
-pub views-deletion : (a : Archive) (i : ℕ) (line : EntryLine) (old new : Viewed) → IsArchive a → line_at a.entries i ≡ Some line → line.kind ≡ Deletion → old ≡ views_of (live (take i a.entries)) → new ≡ without_mail old line.number
-    → new ≡ views_of (live (take (i + 1) a.entries))
+pub views-deletion : (a : Archive) (i : ℕ) (line : EntryLine) (old new : Viewed) → IsArchive a → line_at a.config.form a.entries i ≡ Some line → line.kind ≡ Deletion → old ≡ views_of a.config.form (live (take i a.entries)) → new ≡ without_mail old line.number
+    → new ≡ views_of a.config.form (live (take (i + 1) a.entries))
 views-deletion a i line old new valid is kind old_is new_is =
-    let at = line-entry [] a.entries i line is in
+    let at = line-entry a.config.form [] a.entries i line is in
     let e : Entry = at.entry in
     let more : take (i + 1) a.entries ≡ take i a.entries ++ e ∷ [] = take-more a.entries i e at.there in
     let one : e ≡ deletion e.number e.epoch e.text e.moment = as_deletion e (at.kind ∙ kind) in
@@ -124,14 +133,14 @@ views-deletion a i line old new valid is kind old_is new_is =
     let rise : Ascends 1 (live (take i a.entries)) = live-ascends 1 0 (take i a.entries) (rise-take 1 0 i a.entries valid.order) in
     new_is
     ∙ ap (λ (v : Viewed). without_mail v line.number) old_is
-    ∙ ap (λ n. without_mail (views_of (live (take i a.entries))) n) (sym at.number)
-    ∙ mails-taken (live (take i a.entries)) 1 e.number rise
-    ∙ ap views_of (sym (ap live more ∙ shrinks))
+    ∙ ap (λ n. without_mail (views_of a.config.form (live (take i a.entries))) n) (sym at.number)
+    ∙ mails-taken a.config.form (live (take i a.entries)) 1 e.number rise
+    ∙ ap (views_of a.config.form) (sym (ap live more ∙ shrinks))
 
 -- What was walked through so far.
 pub record Filled {W : Type 0} (holds : W → Archive → Type 0) (sound : W → Type 0) (lines : W → List EntryLine) (alike : W → W → Type 0) (faults reads : W → ℕ) (old new : W) (index : ℕ) (views : Viewed) : Type 0 where
   pub walk : WalksOn holds sound lines alike faults old new
-  pub views_are : (a : Archive) → holds old a → views ≡ views_of (live (take index a.entries))
+  pub views_are : (a : Archive) → holds old a → views ≡ views_of a.config.form (live (take index a.entries))
   pub steady : faults new ≡ faults old
   pub few : reads new + message_count (drop index (lines old)) ≤ reads old + message_count (lines old)
 

@@ -4,8 +4,9 @@ use Rattle.std.specs.List.{filter}
 use Rattle.std.specs.BTreeMap.{insert_entry, is_at}
 use Rattle.std.specs.Map.{keys_of, remove_entry}
 use Rattle.std.specs.Ordering.{nat_cmp}
+use Rattle.arch_base.specs.declared.ids.Form.{Form}
 use Rattle.arch_model.specs.Archives.{Entry}
-use Rattle.arch_model.specs.Listings.{row_at, rows_of}
+use Rattle.arch_model.specs.Listings.{date_at, rows_of}
 use Rattle.mail_forms.specs.declared.row.Row.{Row}
 use Rattle.mime_parts.specs.Words.{mail_words}
 use Rattle.overview_index.specs.Listings.{with_row, without, rows_numbered, listing}
@@ -41,14 +42,18 @@ without_mail v n = record {
   words = remove_entry (is_at (nat_cmp n)) v.words;
 }
 
+-- The words of a message, and the day of its date in UTC.
+abbrev pub worded_at : Entry → Worded
+worded_at e = record { words = mail_words e.text; day = utc_day (date_at e) }
+
 -- The words of messages, by number.
 abbrev pub worded_of : List Entry → List (ℕ × Worded)
 worded_of [] = []
-worded_of (e ∷ es) = (e.number, worded_by (row_at e) (mail_words e.text)) ∷ worded_of es
+worded_of (e ∷ es) = (e.number, worded_at e) ∷ worded_of es
 
--- What views hold of these messages.
-abbrev pub views_of : List Entry → Viewed
-views_of es = record { rows = rows_of es; words = worded_of es }
+-- What views hold of these messages, whose blob ids are of a form.
+abbrev pub views_of : Form → List Entry → Viewed
+views_of form es = record { rows = rows_of form es; words = worded_of es }
 
 -- The numbers of the rows whose words and days match a query, newest first.
 abbrev pub searched : Query → Viewed → List ℕ

@@ -1,5 +1,6 @@
 -- What a walk through entries makes of the rows of live messages.
 use Rattle.std.specs.Prelude.{◌≡◌, ◌≢◌, ◌+◌, ◌<◌, ℕ, List, [], ◌∷◌, Some, slice_get, Result, Ok, Err}
+use Rattle.arch_base.specs.declared.ids.Form.{Form}
 use Rattle.arch_base.specs.declared.ids.ObjectId.{ObjectId}
 use Rattle.git_objects.specs.declared.entry_kind.EntryKind.{EntryKind}
 use Rattle.git_objects.specs.declared.entry_kind.EntryKind.TheVariants.{Message, Deletion}
@@ -48,11 +49,12 @@ abbrev pub WalkTellsDamage : {T : Type 0} → List EntryLine → Result T Unread
 WalkTellsDamage lines (Ok rows) = Unit {0}
 WalkTellsDamage lines (Err unread) = IsDamagedTextAt lines unread.index unread.why
 
--- The row and the words of the text of the entry at an index were added, with a number and a moment.
-abbrev pub AddsRowAt : List Entry → ℕ → ℕ → ℕ → Viewed → Viewed → Type 0
-AddsRowAt entries index number moment old new =
+-- The row in a form and the words of the text of the entry at an index were added, with a number and a
+-- moment.
+abbrev pub AddsRowAt : Form → List Entry → ℕ → ℕ → ℕ → Viewed → Viewed → Type 0
+AddsRowAt form entries index number moment old new =
     (text : List ℕ) × HasTextAt entries index text
-    × (new ≡ with_mail old (row_of number text moment) (mail_words text))
+    × (new ≡ with_mail old (row_of form number text moment) (mail_words text))
 
 -- How often the text of an entry of a kind is read: once, if it is a message.
 abbrev pub reads_of : EntryKind → ℕ

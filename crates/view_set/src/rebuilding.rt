@@ -33,7 +33,7 @@ pub struct Unread {
 /// blob, which never happens while an archive is held; `NoMemory` if an allocation fails.
 pub fn rebuild<W: Walked>(alloc: Global, walked: &mut W) -> Result<Views, Unread>
     ensures rows { (a : Archive) → W.holds walked.old a
-        → IfOk result (λ views. views ≡ views_of (live a.entries)) }
+        → IfOk result (λ views. views ≡ views_of a.config.form (live a.entries)) }
     ensures undamaged { (a : Archive) → W.holds walked.old a → WalksUndamaged result }
     ensures sound { W.sound walked.old → WalksUndamaged result }
     ensures within { StopsWithin (length (W.lines walked.old)) result }
@@ -53,7 +53,7 @@ pub fn rebuild<W: Walked>(alloc: Global, walked: &mut W) -> Result<Views, Unread
 fn fill<W: Walked>(alloc: Global, walked: &mut W, views: &mut Views) -> Result<(), Unread>
     requires none { views.old ≡ no_mails }
     ensures rows { (a : Archive) → W.holds walked.old a
-        → OnOk result (views.new ≡ views_of (live a.entries)) }
+        → OnOk result (views.new ≡ views_of a.config.form (live a.entries)) }
     ensures undamaged { (a : Archive) → W.holds walked.old a → WalksUndamaged result }
     ensures sound { W.sound walked.old → WalksUndamaged result }
     ensures within { StopsWithin (length (W.lines walked.old)) result }
@@ -90,10 +90,12 @@ fn take_line<W: Walked>(
 ) -> Result<(), TextRefusal>
     requires line { slice_get (W.lines walked.old) index ≡ Some line.now }
     requires there { index < length (W.lines walked.old) }
-    requires archive { (a : Archive) → W.holds walked.old a → line_at a.entries index ≡ Some line.now }
+    requires archive { (a : Archive) → W.holds walked.old a
+        → line_at a.config.form a.entries index ≡ Some line.now }
     ensures rows { (a : Archive) → W.holds walked.old a
-        → views.old ≡ views_of (live (take index a.entries))
-        → OnOk result (views.new ≡ views_of (live (take (index + 1) a.entries))) }
+        → views.old ≡ views_of a.config.form (live (take index a.entries))
+        → OnOk result (views.new
+        ≡ views_of a.config.form (live (take (index + 1) a.entries))) }
     ensures undamaged { (a : Archive) → W.holds walked.old a → IfErr result IsUndamaged }
     ensures sound { W.sound walked.old → IfErr result IsUndamaged }
     ensures damage { IfErr result (λ why. IsDamagedTextAt (W.lines walked.old) index why) }
@@ -120,8 +122,10 @@ fn add_message<W: Walked>(
 ) -> Result<(), TextRefusal>
     requires line { slice_get (W.lines walked.old) index ≡ Some line.now }
     requires there { index < length (W.lines walked.old) }
-    ensures row { (a : Archive) → W.holds walked.old a → OnOk result (AddsRowAt a.entries index
-        line.now.number line.now.secs views.old views.new) }
+    requires archive { (a : Archive) → W.holds walked.old a
+        → line_at a.config.form a.entries index ≡ Some line.now }
+    ensures row { (a : Archive) → W.holds walked.old a → OnOk result (AddsRowAt a.config.form
+        a.entries index line.now.number line.now.secs views.old views.new) }
     ensures undamaged { (a : Archive) → W.holds walked.old a → IfErr result IsUndamaged }
     ensures sound { W.sound walked.old → IfErr result IsUndamaged }
     ensures damage { IfErr result (NamesBlob line.now.blob) }

@@ -1,7 +1,7 @@
 //! The rows and words of texts.
 //! Allocates.
 ghost use Rattle.std.specs.Prelude.{◌≡◌, OnOk, OnErr};
-ghost use Rattle.arch_base.specs.declared.ids.Form.TheVariants as form;
+ghost use Rattle.arch_base.specs.declared.ids.Form.{Form};
 ghost use Rattle.mail_commits.specs.Ids.{text_ids_of};
 ghost use Rattle.mail_reader.specs.StorageTexts.{IsStorageText};
 ghost use Rattle.arch_model.specs.Rows.{row_of as row_fact};
@@ -30,14 +30,13 @@ pub fn add_row(
     moment: u64,
 ) -> Result<(), NoMemory>
     requires text { IsStorageText text.now }
-    requires ids { ids.now ≡ text_ids_of form.Sha1 text.now }
-    ensures ok { OnOk result (views.new ≡ with_mail views.old (row_fact number text.now moment)
-        (mail_words text.now)) }
+    ensures ok { (form : Form) → ids.now ≡ text_ids_of form text.now → OnOk result (views.new
+        ≡ with_mail views.old (row_fact form number text.now moment) (mail_words text.now)) }
     ensures err { OnErr result (views.new ≡ views.old) }
 {
     let row = row_of(alloc, number, ids, text, moment)?;
     let words = words(alloc, text)?;
-    if views.get(number).is_some() || views.by_id(row.id.as_slice()).is_some() {
+    if views.get(row.number).is_some() || views.by_id(row.id.as_slice()).is_some() {
         return Err(NoMemory);
     }
     views.add(row, words)
@@ -55,9 +54,8 @@ pub fn add_if_stored(
     text: &[u8],
     moment: u64,
 ) -> Result<(), NoMemory>
-    requires { ids.now ≡ text_ids_of form.Sha1 text.now }
-    ensures ok { OnOk result (views.new ≡ with_mail views.old (row_fact number text.now moment)
-        (mail_words text.now)) }
+    ensures ok { (form : Form) → ids.now ≡ text_ids_of form text.now → OnOk result (views.new
+        ≡ with_mail views.old (row_fact form number text.now moment) (mail_words text.now)) }
     ensures err { OnErr result (views.new ≡ views.old) }
 {
     if !is_stored(text) {

@@ -1,6 +1,7 @@
 //! The rows of live messages, the threads that they make, and their words.
 //! Allocates.
 ghost use Rattle.std.specs.Prelude.{◌≡◌, List, take, drop, None, IfOk, OnOk, OnErr, option_copied};
+ghost use Rattle.arch_base.specs.declared.ids.Form.{Form};
 ghost use Rattle.overview_index.specs.Listings.{row_in, number_of, listing, live_between, IsLeastFrom, IsGreatestTo};
 ghost use Rattle.thread_model.specs.Members.{Rises};
 ghost use Rattle.view_set.specs.Threads.{thread_in};
@@ -202,8 +203,8 @@ impl Views {
         skip: u64,
         count: u64,
     ) -> Result<MessageNumbers, NoMemory>
-        ensures { (entries : List Entry) → Rise 1 0 entries → self.now ≡ views_of (live entries)
-            → IfOk result (λ page. page
+        ensures { (form : Form) (entries : List Entry) → Rise 1 0 entries
+            → self.now ≡ views_of form (live entries) → IfOk result (λ page. page
             ≡ take count (drop skip (search_in query.now (live entries)))) }
     {
         let Some(wanted) = skip.checked_add(count) else {
@@ -218,8 +219,8 @@ impl Views {
 
     /// Returns a part of what `search` gives.
     fn search_part(&self, query: &Query, skip: u64, count: u64) -> Result<MessageNumbers, NoMemory>
-        ensures { (entries : List Entry) → Rise 1 0 entries → self.now ≡ views_of (live entries)
-            → IfOk result (λ page. page
+        ensures { (form : Form) (entries : List Entry) → Rise 1 0 entries
+            → self.now ≡ views_of form (live entries) → IfOk result (λ page. page
             ≡ take count (drop skip (search_in query.now (live entries)))) }
     {
         let found = self.search(query)?;

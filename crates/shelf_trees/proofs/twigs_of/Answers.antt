@@ -9,7 +9,7 @@ loop-number-init g c = λ a held. twigs-begin (live a.entries) c.new-twigs.resul
 
 pub loop-number-preserved : goal.loop-number-preserved
 loop-number-preserved g c = λ a held.
-    twigs-more (live a.entries) c.loop-number.twigs c.add_number.new.twigs (twigs_after (live a.entries) [] c.as_slice-numbers.result.now) c.as_slice-numbers.result.now c.loop-number.number-index _ c.loop-number-test.true (c.in_ok-add_number.ensures a held) (c.loop-number.invariant a held)
+    twigs-more a.config.form (live a.entries) c.loop-number.twigs c.add_number.new.twigs (twigs_after (live a.entries) [] c.as_slice-numbers.result.now) c.as_slice-numbers.result.now c.loop-number.number-index _ c.loop-number-test.true (c.in_ok-add_number.ensures a held) (c.loop-number.invariant a held)
 
 pub returns : goal.returns
 returns g c = λ a held.

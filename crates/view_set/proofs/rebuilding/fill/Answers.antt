@@ -9,7 +9,7 @@ use Rattle.view_set.proofs.rebuilding.fill.Goals as goal
 pub loop-line-init : goal.loop-line-init
 loop-line-init g c = record {
   walk = walks-same g.W.Walked.holds g.W.Walked.sound g.W.Walked.lines g.W.Walked.alike g.W.Walked.faults g.met.W.Walked.alike_same g.met.W.Walked.alike_joined c.args.walked.now;
-  views_are = λ a held. c.requires.none ∙ ap (λ es. views_of (live es)) (sym (take-zero a.entries));
+  views_are = λ a held. c.requires.none ∙ ap (λ es. views_of a.config.form (live es)) (sym (take-zero a.entries));
   steady = search rules;
   few = omega arith;
 }
@@ -42,7 +42,7 @@ loop-line-preserved g c = record {
 pub returns-clause-rows : goal.returns-clause-rows
 returns-clause-rows g c = λ a held.
     c.loop-line.invariant.views_are a held
-    ∙ ap (λ es. views_of (live es)) (take-all [] a.entries c.loop-line.index (sym (c.in_default.ensures.archive a (c.loop-line.invariant.walk.kept a held))))
+    ∙ ap (λ es. views_of a.config.form (live es)) (take-all a.config.form [] a.entries c.loop-line.index (sym (c.in_default.ensures.archive a (c.loop-line.invariant.walk.kept a held))))
 
 pub returns-in-Err-clause-cause : goal.returns-in-Err-clause-cause
 returns-in-Err-clause-cause g c = why-earlier (g.W.Walked.faults c.args.walked.now) (g.W.Walked.faults c.loop-line.walked) (g.W.Walked.faults c.take_line.new.walked) c.in-Err.why c.loop-line.invariant.steady c.in-Err.ensures.cause
