@@ -1,6 +1,5 @@
 -- A delivery is never answered that a number isn't live.
 use Rattle.std.specs.Prelude.{◌≡◌, ℕ, Bool, true, false, nat_lt, List, Option, Some, None, Result, Ok, Err, if◌then◌else◌}
-use Rattle.arch_base.specs.declared.ids.Form.TheVariants as form
 use Rattle.git_objects.specs.Objects.{blob_id_of}
 use Rattle.mail_reader.specs.Stored.{stored}
 use Rattle.mail_reader.specs.declared.storing.StoredRefusal.{StoredRefusal}
@@ -12,7 +11,7 @@ use Rattle.arch_model.specs.declared.answer.Answer.TheVariants as answer
 use Rattle.arch_model.specs.declared.choice.Choice.{Choice}
 use Rattle.arch_model.specs.declared.choice.Choice.TheVariants as choice
 
-new_lives : (t : Bool) (a : Archive) (text : List ℕ) (moment n : ℕ) → (if t then refused a (answer.Full a.config.max) else record { archive = with_entry a (new_epoch a) text moment; answer = answer.Ok a.next (blob_id_of form.Sha1 text) }).answer ≡ answer.NotLive n → ⊥
+new_lives : (t : Bool) (a : Archive) (text : List ℕ) (moment n : ℕ) → (if t then refused a (answer.Full a.config.max) else record { archive = with_entry a (new_epoch a) text moment; answer = answer.Ok a.next (blob_id_of a.config.form text) }).answer ≡ answer.NotLive n → ⊥
 new_lives true a text moment n is = cc
 new_lives false a text moment n is = cc
 
@@ -22,7 +21,7 @@ kept_lives a text moment n None is = new_lives (nat_lt a.config.max a.next) a te
 
 choice_lives : (a : Archive) (moment n : ℕ) (taken : Choice) → (delivered_choice a moment taken).answer ≡ answer.NotLive n → ⊥
 choice_lives a moment n (choice.Repeat number) is = cc
-choice_lives a moment n (choice.Take text) is = kept_lives a text moment n (collision a.entries text) is
+choice_lives a moment n (choice.Take text) is = kept_lives a text moment n (collision a.config.form a.entries text) is
 
 form_lives : (a : Archive) (moment n : ℕ) (form : Result (List ℕ) StoredRefusal) → (delivered_form a moment form).answer ≡ answer.NotLive n → ⊥
 form_lives a moment n (Ok text) is = choice_lives a moment n (choice_of a text) is

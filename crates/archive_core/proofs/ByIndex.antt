@@ -1,6 +1,7 @@
 -- The entries of a store by their indexes.
 use Rattle.std.specs.Prelude.{◌≡◌, ◌<◌, ℕ, zero, suc, List, [], ◌∷◌, ◌++◌, length, slice_get, Option, Some, None, refl}
 use Rattle.std.proofs.Common.{◌∙◌, sym, ap, arith}
+use Rattle.arch_base.specs.declared.ids.Form.{Form}
 use Rattle.root_slots.specs.declared.root.Root.{Root}
 use Rattle.arch_model.specs.Archives.{Entry, Archive}
 use Rattle.arch_model.specs.Shelves.{lines_after, line_at}
@@ -9,13 +10,13 @@ use Rattle.epoch_store.specs.Reads.{line_if, place_if}
 use Rattle.store_finding.specs.Kept.{StoreState, KeepsArchive, stored_after}
 
 -- The line at an index.
-lines_same : (before es : List Entry) (i : ℕ) → line_if (slice_get (stored_after before es) i) ≡ slice_get (lines_after before es) i
-lines_same before [] i = refl
-lines_same before (e ∷ es) zero = refl
-lines_same before (e ∷ es) (suc i) = lines_same (before ++ e ∷ []) es i
+lines_same : (form : Form) (before es : List Entry) (i : ℕ) → line_if (slice_get (stored_after form before es) i) ≡ slice_get (lines_after form before es) i
+lines_same form before [] i = refl
+lines_same form before (e ∷ es) zero = refl
+lines_same form before (e ∷ es) (suc i) = lines_same form (before ++ e ∷ []) es i
 
-pub line-kept : (v : StoreState) (a : Archive) (i : ℕ) → KeepsArchive v a → line_if (slice_get v.entries i) ≡ line_at a.entries i
-line-kept v a i keeps = ap (λ (es : List StoredEntry). line_if (slice_get es i)) keeps.kept ∙ lines_same [] a.entries i
+pub line-kept : (v : StoreState) (a : Archive) (i : ℕ) → KeepsArchive v a → line_if (slice_get v.entries i) ≡ line_at a.config.form a.entries i
+line-kept v a i keeps = ap (λ (es : List StoredEntry). line_if (slice_get es i)) keeps.kept ∙ lines_same a.config.form [] a.entries i
 
 -- An entry at an index below their number has a place.
 none_at : (es : List StoredEntry) (i : ℕ) → i < length es → slice_get es i ≡ None → ⊥

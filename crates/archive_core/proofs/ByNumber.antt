@@ -146,11 +146,11 @@ module _ (v : StoreState) (places : List MessagePlace) (placed : places ≡ mess
 
   module _ (a : Archive) (keeps : KeepsArchive v a) where
     pub rises : PlacesRise places
-    rises = subst PlacesRise (sym (placed ∙ ap (message_places 0) keeps.kept)) (places-low 0 1 (message_places 0 (stored_after [] a.entries)) (omega arith) (places-rise [] a.entries 0 1 0 keeps.valid.order))
+    rises = subst PlacesRise (sym (placed ∙ ap (message_places 0) keeps.kept)) (places-low 0 1 (message_places 0 (stored_after a.config.form [] a.entries)) (omega arith) (places-rise a.config.form [] a.entries 0 1 0 keeps.valid.order))
 
     -- A number has a live place just if it is shown.
     pub live-shown : (n : ℕ) → live_place places n ≡ is_some (text_of (live a.entries) n)
-    live-shown n = live-known n ∙ ap (λ (es : List StoredEntry). has_live es n) keeps.kept ∙ has_live-is a.entries n
+    live-shown n = live-known n ∙ ap (λ (es : List StoredEntry). has_live es n) keeps.kept ∙ has_live-is a.config.form a.entries n
 
     no_text : (found : Option (List ℕ)) → is_some found ≡ false → found ≡ None
     no_text None lacks = refl
@@ -166,7 +166,7 @@ module _ (v : StoreState) (places : List MessagePlace) (placed : places ≡ mess
       by : (o : Option (List ℕ)) → text_of (messages a.entries) n ≡ o → is_some o ≡ false
       by None is = refl
       by (Some text) is =
-          let at = message-place [] a.entries 0 n text is in
+          let at = message-place a.config.form [] a.entries 0 n text is in
           absurd (none rises at.index at.place (ap (λ (ps : List MessagePlace). slice_get ps at.index) (placed ∙ ap (message_places 0) keeps.kept) ∙ at.there) at.number_is)
 
     -- The number of a message is that of an entry that was delivered.
@@ -189,12 +189,12 @@ inside-message v w n i same at = subst (λ (u : StoreState). i < length u.entrie
 module _ (v : StoreState) (a : Archive) (keeps : KeepsArchive v a) (n i : ℕ) (at : IsLiveAt v.entries n i) where
   pub entry-text : (text : List ℕ) → text_if (slice_get a.entries i) ≡ Some text → text_of (live a.entries) n ≡ Some text
   entry-text text read =
-      let found = kept-at [] a.entries i at.message.entry (ap (λ (es : List StoredEntry). slice_get es i) (sym keeps.kept) ∙ at.message.there) in
+      let found = kept-at a.config.form [] a.entries i at.message.entry (ap (λ (es : List StoredEntry). slice_get es i) (sym keeps.kept) ∙ at.message.there) in
       let e : Entry = found.entry in
       let number_is : e.number ≡ n = ap (λ (s : StoredEntry). s.number) (sym found.kept.1) ∙ at.message.number_is in
       let is_one : is_message e.kind ≡ true = ap (λ (s : StoredEntry). is_message s.seen.kind) (sym found.kept.1) ∙ at.message.is_one in
       let has : has_live v.entries n ≡ true = subst (λ (m : ℕ). has_live v.entries m ≡ true) at.message.number_is (contains-number (live_kept v.entries) at.message.entry at.is_live) in
-      let some : is_some (text_of (live a.entries) n) ≡ true = sym (ap (λ (es : List StoredEntry). has_live es n) keeps.kept ∙ has_live-is a.entries n) ∙ has in
+      let some : is_some (text_of (live a.entries) n) ≡ true = sym (ap (λ (es : List StoredEntry). has_live es n) keeps.kept ∙ has_live-is a.config.form a.entries n) ∙ has in
       let shown = shown-at a.entries 0 i e keeps.valid.order found.there is_one (subst (λ (m : ℕ). is_some (text_of (live a.entries) m) ≡ true) (sym number_is) some) in
       subst (λ (m : ℕ). text_of (live a.entries) m ≡ Some e.text) number_is shown ∙ sym (ap text_if found.there) ∙ read
 

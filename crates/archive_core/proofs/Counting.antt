@@ -10,6 +10,7 @@ use Rattle.arch_model.specs.Validity.{IsArchive}
 use Rattle.arch_model.proofs.LiveEntries.{live-all}
 use Rattle.arch_judge.proofs.Endings.{Ascend, live-ascend}
 use Rattle.store_finding.specs.declared.entries.StoredEntry.{StoredEntry}
+use Rattle.arch_base.specs.declared.ids.Form.{Form}
 use Rattle.store_finding.specs.Kept.{StoreState, KeepsArchive, stored_after}
 use Rattle.epoch_store.specs.Commands.{live_kept, is_ended_in}
 use Rattle.archive_core.specs.Placing.{message_places}
@@ -69,16 +70,16 @@ all_live index (e ∷ es) = place_step (is_message e.seen.kind) (is_ended_in es 
 pub live-places-counted : (es : List StoredEntry) (ps : List MessagePlace) → ps ≡ message_places 0 es → count_by (λ (p : MessagePlace). p.live) ps ≡ length (live_kept es)
 live-places-counted es ps is = sym (is_count_by places_live (λ (p : MessagePlace). p.live) refl (λ p rest. refl) ps) ∙ ap places_live is ∙ all_live 0 es
 
-kept_length : (ss : List StoredEntry) (es : List Entry) → AreKeptOf ss es → length ss ≡ length es
-kept_length [] [] kept = refl
-kept_length [] (e ∷ es) kept = absurd kept
-kept_length (s ∷ ss) [] kept = absurd kept
-kept_length (s ∷ ss) (e ∷ es) kept = (let rest = kept_length ss es kept.1 in omega (arith, rest))
+kept_length : (form : Form) (ss : List StoredEntry) (es : List Entry) → AreKeptOf form ss es → length ss ≡ length es
+kept_length form [] [] kept = refl
+kept_length form [] (e ∷ es) kept = absurd kept
+kept_length form (s ∷ ss) [] kept = absurd kept
+kept_length form (s ∷ ss) (e ∷ es) kept = (let rest = kept_length form ss es kept.1 in omega (arith, rest))
 
 -- As many live entries are kept as the archive has live messages, so 32 bits count them.
 pub kept-counted : (v : StoreState) (a : Archive) (count : ℕ) → KeepsArchive v a → count ≡ length (live_kept v.entries) → min count 4294967295 ≡ length (live a.entries)
 kept-counted v a count keeps is =
-    let same : count ≡ length (live a.entries) = is ∙ ap (λ (ss : List StoredEntry). length (live_kept ss)) keeps.kept ∙ kept_length (live_kept (stored_after [] a.entries)) (live a.entries) (live-kept [] a.entries) in
+    let same : count ≡ length (live a.entries) = is ∙ ap (λ (ss : List StoredEntry). length (live_kept ss)) keeps.kept ∙ kept_length a.config.form (live_kept (stored_after a.config.form [] a.entries)) (live a.entries) (live-kept a.config.form [] a.entries) in
     let bound : 1 + length (live a.entries) ≤ a.next = few_live a keeps.valid in
     let most : a.next ≤ 2147483648 = keeps.valid.next_most in
     omega (arith, same, bound, most)

@@ -11,7 +11,6 @@ use Rattle.arch_base.specs.Ids.{id_eq}
 use Rattle.arch_base.specs.declared.ids.ObjectId.{ObjectId}
 use Rattle.arch_base.specs.contracts.ids.ObjectIdPartialEq.TheImpl as code
 use Rattle.arch_base.proofs.IdOrder.{id_eq-flip, same_ids}
-use Rattle.arch_base.specs.declared.ids.Form.TheVariants as form
 use Rattle.git_objects.specs.Objects.{blob_id_of}
 use Rattle.git_objects.specs.declared.entry_kind.EntryKind.{EntryKind}
 use Rattle.git_objects.specs.declared.entry_kind.EntryKind.TheVariants.{Message, Deletion}
@@ -273,7 +272,7 @@ pub found-live : (places : List MessagePlace) (entries : List StoredEntry) (blob
 found-live places entries blob index d less lives has = (index, get_or places index d, slice_get-get_or places index d less, refl, lives, has)
 
 -- What is kept after an edit: the index and the places of the entries that stay, and of one more.
-pub indexes-edited : (old new : StoreState) (before after : Index) (gone blob : ObjectId) (text : List ℕ) → IndexesKept (without_blob old.entries gone) before → blob ≡ blob_id_of form.Sha1 text → PutsText before after text blob old.root.next → EditsEntries old new gone text → IndexesStored new.entries after
+pub indexes-edited : (old new : StoreState) (before after : Index) (gone blob : ObjectId) (text : List ℕ) → IndexesKept (without_blob old.entries gone) before → blob ≡ blob_id_of old.root.config.form text → PutsText before after text blob old.root.next → EditsEntries old new gone text → IndexesStored new.entries after
 indexes-edited old new before after gone blob text indexed blob_is puts edits =
     let s = edits.entry in
     let put : IndexPuts before after s.seen.id blob (record { number = old.root.next; content = content_id_of text }) = puts s.seen.id edits.id in

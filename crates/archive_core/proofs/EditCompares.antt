@@ -4,8 +4,8 @@ use Rattle.std.specs.Str.{bytes_eq}
 use Rattle.std.proofs.Common.{◌∙◌, sym, ap, subst}
 use Rattle.std.proofs.lemmas.Option.{get_or_from_slice_get, same_Some}
 use Rattle.std.proofs.lemmas.Slice.Eq.{bytes_eq-Decides}
+use Rattle.arch_base.specs.declared.ids.Form.{Form}
 use Rattle.arch_base.specs.declared.ids.ObjectId.{ObjectId}
-use Rattle.arch_base.specs.declared.ids.Form.TheVariants as form
 use Rattle.arch_base.specs.Ids.{id_eq}
 use Rattle.arch_base.specs.contracts.ids.ObjectIdPartialEq.TheImpl as code
 use Rattle.arch_base.proofs.IdOrder.{id_eq-Decides, same_ids}
@@ -24,17 +24,18 @@ use Rattle.archive_core.specs.Numbers.{IsLiveAt}
 use Rattle.archive_core.specs.Rewriting.{ComparesForm}
 use Rattle.archive_core.proofs.ByBlob.{message-of}
 use Rattle.archive_core.proofs.ByNumber.{entry-text, text-gives}
+use Rattle.archive_core.proofs.Indexes.{form-is}
 
 -- The entry of a live number has the blob id of its text.
-pub live-blob : (v : StoreState) (a : Archive) (n i : ℕ) (text : List ℕ) → KeepsArchive v a → (at : IsLiveAt v.entries n i) → text_of (live a.entries) n ≡ Some text → at.message.entry.seen.blob ≡ blob_id_of form.Sha1 text
+pub live-blob : (v : StoreState) (a : Archive) (n i : ℕ) (text : List ℕ) → KeepsArchive v a → (at : IsLiveAt v.entries n i) → text_of (live a.entries) n ≡ Some text → at.message.entry.seen.blob ≡ blob_id_of a.config.form text
 live-blob v a n i text keeps at shown =
     let own = message-of v a n i keeps at.message in
     let read : text_of (live a.entries) n ≡ Some own.entry.text = entry-text v a keeps n i at own.entry.text (ap text_if own.there) in
-    own.blob ∙ ap (blob_id_of form.Sha1) (same_Some own.entry.text text (sym read ∙ shown))
+    own.blob ∙ ap (blob_id_of a.config.form) (same_Some own.entry.text text (sym read ∙ shown))
 
 -- A form with another blob id isn't the text.
 pub compares-other : (v : StoreState) (a : Archive) (n i : ℕ) (seen : List StoredEntry) (e : StoredEntry) (found : ObjectId) (kept bytes text : List ℕ) (wanted : Result (List ℕ) StoredRefusal) (r : Bool)
-    → KeepsArchive v a → IsLiveAt v.entries n i → seen ≡ v.entries → wanted ≡ Ok kept → found ≡ blob_id_of form.Sha1 bytes → bytes ≡ kept → r ≡ not (code.ghosts.eq found (get_or seen i e).seen.blob) → r ≡ true → text_of (live a.entries) n ≡ Some text → false ≡ is_form text wanted
+    → KeepsArchive v a → IsLiveAt v.entries n i → seen ≡ v.entries → wanted ≡ Ok kept → found ≡ blob_id_of v.root.config.form bytes → bytes ≡ kept → r ≡ not (code.ghosts.eq found (get_or seen i e).seen.blob) → r ≡ true → text_of (live a.entries) n ≡ Some text → false ≡ is_form text wanted
 compares-other v a n i seen e found kept bytes text wanted r keeps at same form_is found_is bytes_is r_is told shown =
     by (bytes_eq kept text) refl ∙ ap (is_form text) (sym form_is)
   where
@@ -45,8 +46,8 @@ compares-other v a n i seen e found kept bytes text wanted r keeps at same form_
     by false other = sym other
     by true equal =
         absurd (let is_text : kept ≡ text = (bytes_eq-Decides kept text).0 equal in
-        let blob : (get_or seen i e).seen.blob ≡ blob_id_of form.Sha1 text = ap (λ (s : StoredEntry). s.seen.blob) at_entry ∙ live-blob v a n i text keeps at shown in
-        let ids : found ≡ (get_or seen i e).seen.blob = found_is ∙ ap (blob_id_of form.Sha1) (bytes_is ∙ is_text) ∙ sym blob in
+        let blob : (get_or seen i e).seen.blob ≡ blob_id_of a.config.form text = ap (λ (s : StoredEntry). s.seen.blob) at_entry ∙ live-blob v a n i text keeps at shown in
+        let ids : found ≡ (get_or seen i e).seen.blob = found_is ∙ ap (λ (f : Form). blob_id_of f bytes) (form-is v a keeps) ∙ ap (blob_id_of a.config.form) (bytes_is ∙ is_text) ∙ sym blob in
         let hit : id_eq found (get_or seen i e).seen.blob ≡ true = (id_eq-Decides found (get_or seen i e).seen.blob).1 ids in
         let wrong : true ≡ false = sym told ∙ r_is ∙ ap not (same_ids found (get_or seen i e).seen.blob ∙ hit) in cc)
 

@@ -5,6 +5,7 @@ use Rattle.arch_base.specs.Counts.{RoseIf}
 use Rattle.archive_core.specs.declared.texts.KeptText.{KeptText}
 use Rattle.disk_model.specs.Disk.{Content, BothTold, Unchanged, WhereTold}
 use Rattle.mail_reader.specs.Stored.{stored}
+use Rattle.arch_base.specs.declared.ids.Form.{Form}
 use Rattle.arch_model.specs.Archives.{Archive, live, text_of}
 use Rattle.arch_model.specs.Delivery.{edited, is_form}
 use Rattle.arch_model.specs.declared.answer.Answer.{Answer}
@@ -33,9 +34,9 @@ unformed-answers number (answer.TooLarge len) one = tt
 unformed-answers number (answer.Damaged file at) one = tt
 unformed-answers number other one = absurd one
 
-pub unformed-tells : (reply : Answer) (text : KeptText) → IsUnformed reply → TellsText reply text
-unformed-tells (answer.Ok n id) text one = absurd one
-unformed-tells other text one = tt
+pub unformed-tells : (form : Form) (reply : Answer) (text : KeptText) → IsUnformed reply → TellsText form reply text
+unformed-tells form (answer.Ok n id) text one = absurd one
+unformed-tells form other text one = tt
 
 pub unformed-never : (reply : Answer) (P : Type 0) → IsUnformed reply → OnDone reply P
 unformed-never (answer.Ok n id) P one = absurd one

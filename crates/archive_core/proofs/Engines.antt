@@ -4,6 +4,7 @@ use Rattle.std.specs.List.{Contains}
 use Rattle.std.proofs.Common.{◌∙◌, sym, ap, subst, inl, inr, arith}
 use Rattle.std.proofs.lemmas.Bool.{false≢true}
 use Rattle.arch_base.specs.Counts.{RoseIf}
+use Rattle.arch_base.specs.declared.ids.Form.{Form}
 use Rattle.arch_base.specs.declared.ids.ObjectId.{ObjectId}
 use Rattle.disk_model.specs.declared.disk.Disk.{Ghosts as Disk}
 use Rattle.disk_model.specs.declared.name.FileName.{FileName}
@@ -279,7 +280,7 @@ module _ {D : Type 0} (g : Disk D)
   abbrev pub Found : Owning D → LastKnown → Owning D → Type 0
   Found e s new = (t : LastKnown) × Going e s new t × Settles s t × FindsArchive g e new t.archive
 
-  pub opened-at : RecoversSomeOne → (e new : Owning D) → Reopening e new.disk → ((a : Archive) (cache : List ℕ) → ReadsWith cache a (g.content e.disk) → IsStoreWith new.view cache a (g.content new.disk) × (new.views ≡ views_of (live a.entries))) → WhereTold IsSettled (g.content new.disk) → OpenedBy e new → (s : LastKnown) → Stands e s → Found e s new
+  pub opened-at : RecoversSomeOne → (e new : Owning D) → Reopening e new.disk → ((a : Archive) (cache : List ℕ) → ReadsWith cache a (g.content e.disk) → IsStoreWith new.view cache a (g.content new.disk) × (new.views ≡ views_of a.config.form (live a.entries))) → WhereTold IsSettled (g.content new.disk) → OpenedBy e new → (s : LastKnown) → Stands e s → Found e s new
   opened-at one e new run opened still by s fits =
       let found = found_in e s fits in
       let both = opened found.0 found.1 found.3 in
@@ -346,14 +347,14 @@ module _ {D : Type 0} (g : Disk D)
     still-settled looks = subst (λ (k : Option Content). WhereTold IsSettled k) (sym (unchanged-is (g.content e.disk) (g.content new.disk) looks.same)) settled
 
     -- It was carried out, or refused.
-    taken-done : (now : List ℕ) → IsStoreWith new.view now (wanted a).archive (g.content new.disk) → (is_ready new ≡ true → new.views ≡ views_of (live (wanted a).archive.entries)) → WhereTold IsSettled (g.content new.disk) → Going e (standing a None) new (standing (wanted a).archive None)
+    taken-done : (now : List ℕ) → IsStoreWith new.view now (wanted a).archive (g.content new.disk) → (is_ready new ≡ true → new.views ≡ views_of (wanted a).archive.config.form (live (wanted a).archive.entries)) → WhereTold IsSettled (g.content new.disk) → Going e (standing a None) new (standing (wanted a).archive None)
     taken-done now own rows still = record {
       fits = record { settled = λ ready. ((now, own, rows ready, still), refl); exact = λ none. (new.view, now, own, still); left = λ may has. store-left g counts_now only_now new (wanted a).archive may (now, own) has.archive };
       passes = λ start may has left. taken-passes start may has.0.archive has.1.0.archive left;
     }
 
     -- Memory ran out before anything was done.
-    taken-none : OnlyLooks g e.disk new.disk → IsStoreWith new.view cache a (g.content new.disk) → new.views ≡ views_of (live a.entries) → Going e (standing a None) new (standing a None)
+    taken-none : OnlyLooks g e.disk new.disk → IsStoreWith new.view cache a (g.content new.disk) → new.views ≡ views_of a.config.form (live a.entries) → Going e (standing a None) new (standing a None)
     taken-none looks own rows = record {
       fits = record { settled = λ ready. ((cache, own, rows, still-settled looks), refl); exact = λ none. (new.view, cache, own, still-settled looks); left = λ may has. store-left g counts_now only_now new a may (cache, own) has.archive };
       passes = λ start may has left. (
@@ -410,7 +411,7 @@ module _ {D : Type 0} (g : Disk D)
 
   -- A removal or a purge that was done leaves the archive after it held.
   removed_by : (e new : Owning D) (a : Archive) (command : Command) (arrived : ℕ) (text : List ℕ) (lost : Option ℕ) (left_cache : List ℕ) (reply : Answer) → (held : HoldsArchive g.content e a) → DoneBy new.view held.0 left_cache a (applied a command arrived) reply (g.content new.disk)
-      → IfDelivery (is_delivery command) (KeepsTextFor command a (applied a command arrived) arrived text) → OnDone reply (IsGone a command lost) → ViewsAfter command lost reply text arrived e.views new.views → OnDone reply (WhereTold IsSettled (g.content new.disk)) → OnDone reply (HoldsArchive g.content new (applied a command arrived).archive)
+      → IfDelivery (is_delivery command) (KeepsTextFor command a (applied a command arrived) arrived text) → OnDone reply (IsGone a command lost) → ViewsAfter a.config.form command lost reply text arrived e.views new.views → OnDone reply (WhereTold IsSettled (g.content new.disk)) → OnDone reply (HoldsArchive g.content new (applied a command arrived).archive)
   removed_by e new a command arrived text lost left_cache (answer.Ok number id) held done kept taken rows still =
       (left_cache, done.store, done-views a command arrived number id text lost e.views new.views (store_keeps e.view held.0 a (g.content e.disk) held.1).valid done.answer_is kept taken held.2 rows, still)
   removed_by e new a command arrived text lost left_cache answer.NoMemory held done kept taken rows still = tt
@@ -427,28 +428,28 @@ module _ {D : Type 0} (g : Disk D)
 
   pub removed-at : (e new : Owning D) (command : Command) (arrived : ℕ) (text : List ℕ) (lost : Option ℕ) (reply : Answer) → ((a : Archive) (cache : List ℕ) → IsStoreWith e.view cache a (g.content e.disk) → DoneBy new.view cache (cache_left command cache) a (applied a command arrived) reply (g.content new.disk))
       → ((a : Archive) (cache : List ℕ) → IsStoreWith e.view cache a (g.content e.disk) → OnDone reply (IsGone a command lost))
-      → IfRemoval (is_delivery command) (ViewsAfter command lost reply text arrived e.views new.views) → OnDone reply (WhereTold IsSettled (g.content new.disk)) → IfRemoval (is_delivery command) ((a : Archive) → HoldsArchive g.content e a → OnDone reply (HoldsArchive g.content new (applied a command arrived).archive))
+      → ((form : Form) → IfRemoval (is_delivery command) (ViewsAfter form command lost reply text arrived e.views new.views)) → OnDone reply (WhereTold IsSettled (g.content new.disk)) → IfRemoval (is_delivery command) ((a : Archive) → HoldsArchive g.content e a → OnDone reply (HoldsArchive g.content new (applied a command arrived).archive))
   removed-at e new (Deliver bytes) arrived text lost reply done taken rows still = tt
-  removed-at e new (Remove n) arrived text lost reply done taken rows still = λ a held. removed_by e new a (Remove n) arrived text lost held.0 reply held (done a held.0 held.1) tt (taken a held.0 held.1) rows still
-  removed-at e new (Purge n) arrived text lost reply done taken rows still = λ a held. removed_by e new a (Purge n) arrived text lost [] reply held (done a held.0 held.1) tt (taken a held.0 held.1) rows still
+  removed-at e new (Remove n) arrived text lost reply done taken rows still = λ a held. removed_by e new a (Remove n) arrived text lost held.0 reply held (done a held.0 held.1) tt (taken a held.0 held.1) (rows a.config.form) still
+  removed-at e new (Purge n) arrived text lost reply done taken rows still = λ a held. removed_by e new a (Purge n) arrived text lost [] reply held (done a held.0 held.1) tt (taken a held.0 held.1) (rows a.config.form) still
   removed-at e new (Edit n bytes) arrived text lost reply done taken rows still = tt
 
   -- A refusal leaves all but the disk as it was, and the disk was only read.
-  module _ (e new : Owning D) (ok : Bool) (command : Command) (gone : Option ℕ) (text : List ℕ) (arrived : ℕ) where
+  module _ (form : Form) (e new : Owning D) (ok : Bool) (command : Command) (gone : Option ℕ) (text : List ℕ) (arrived : ℕ) where
     only-reads : new.view ≡ e.view → new.views ≡ e.views → new.stale ≡ e.stale → OnlyLooks g e.disk new.disk → OnlyReadsOn g e new
     only-reads view views stale looks = record { view_is = view; views_are = views; stale_is = stale; files = looks.same; run = looks.crash }
 
     same-owning : new.disk ≡ e.disk → new.view ≡ e.view → new.views ≡ e.views → new.stale ≡ e.stale → new ≡ e
     same-owning disk view views stale = λ i. record { disk = disk i; view = view i; views = views i; stale = stale i }
 
-    pub refused-at : (reply : Answer) → e.stale ≡ false → new.stale ≡ (needs_opening reply || not ok) → OnRefusal reply (ok ≡ true) → OnRefusal reply (new.view ≡ e.view) → (ok ≡ true → ViewsAfter command gone reply text arrived e.views new.views)
+    pub refused-at : (reply : Answer) → e.stale ≡ false → new.stale ≡ (needs_opening reply || not ok) → OnRefusal reply (ok ≡ true) → OnRefusal reply (new.view ≡ e.view) → (ok ≡ true → ViewsAfter form command gone reply text arrived e.views new.views)
         → OnRefusal reply (UnlessFault reply (OnlyLooks g e.disk new.disk)) → IfRefused reply (OnlyReadsOn g e new)
     refused-at (answer.Ok n id) ready stale followed view rows looks = tt
     refused-at answer.DiskFault ready stale followed view rows looks = tt
     refused-at (answer.Damaged file at) ready stale followed view rows looks = tt
     refused-at other ready stale followed view rows looks = only-reads view (rows followed) (stale ∙ ap not followed ∙ sym ready) looks
 
-    unmoved : (reply : Answer) → e.stale ≡ false → new.stale ≡ (needs_opening reply || not ok) → OnRefusal reply (ok ≡ true) → OnRefusal reply (new.view ≡ e.view) → (ok ≡ true → ViewsAfter command gone reply text arrived e.views new.views) → IfUnread reply (new.disk ≡ e.disk)
+    unmoved : (reply : Answer) → e.stale ≡ false → new.stale ≡ (needs_opening reply || not ok) → OnRefusal reply (ok ≡ true) → OnRefusal reply (new.view ≡ e.view) → (ok ≡ true → ViewsAfter form command gone reply text arrived e.views new.views) → IfUnread reply (new.disk ≡ e.disk)
         → IfUnread reply (new ≡ e)
     unmoved (answer.Duplicate n) ready stale followed view rows disk = same-owning disk view (rows followed) (stale ∙ ap not followed ∙ sym ready)
     unmoved answer.NoFields ready stale followed view rows disk = same-owning disk view (rows followed) (stale ∙ ap not followed ∙ sym ready)
@@ -458,7 +459,7 @@ module _ {D : Type 0} (g : Disk D)
     unmoved answer.IsMirror ready stale followed view rows disk = same-owning disk view (rows followed) (stale ∙ ap not followed ∙ sym ready)
     unmoved other ready stale followed view rows disk = tt
 
-    pub unmoved-at : (reply : Answer) → e.stale ≡ false → new.stale ≡ (needs_opening reply || not ok) → OnRefusal reply (ok ≡ true) → OnRefusal reply (new.view ≡ e.view) → (ok ≡ true → ViewsAfter command gone reply text arrived e.views new.views)
+    pub unmoved-at : (reply : Answer) → e.stale ≡ false → new.stale ≡ (needs_opening reply || not ok) → OnRefusal reply (ok ≡ true) → OnRefusal reply (new.view ≡ e.view) → (ok ≡ true → ViewsAfter form command gone reply text arrived e.views new.views)
         → IfUnreadFor command reply (new.disk ≡ e.disk) → IfUnreadFor command reply (new ≡ e)
     unmoved-at reply ready stale followed view rows disk = unread-for command reply (new.disk ≡ e.disk) (new ≡ e) (unmoved reply ready stale followed view rows) disk
 
@@ -578,7 +579,7 @@ module _ {D : Type 0} (g : Disk D)
     held-inside a = subst (λ (o : Owning D). HoldsArchive g.content o a) (sym is)
 
     -- The views are those of the live messages.
-    pub views-inside : (a : Archive) → HoldsArchive g.content old a → inside.views ≡ views_of (live a.entries)
+    pub views-inside : (a : Archive) → HoldsArchive g.content old a → inside.views ≡ views_of a.config.form (live a.entries)
     views-inside a held = let own = held-inside a held in own.2
 
     pub kept-inside : (a : Archive) → HoldsArchive g.content old a → KeepsArchive inside.view a
@@ -590,7 +591,7 @@ module _ {D : Type 0} (g : Disk D)
 
     pub removed-from : (new : Owning D) (command : Command) (arrived : ℕ) (text : List ℕ) (gone : Option ℕ) (reply : Answer) → ((a : Archive) (cache : List ℕ) → IsStoreWith inside.view cache a (g.content inside.disk) → DoneBy new.view cache (cache_left command cache) a (applied a command arrived) reply (g.content new.disk))
         → ((a : Archive) (cache : List ℕ) → IsStoreWith inside.view cache a (g.content inside.disk) → OnDone reply (IsGone a command gone))
-        → IfRemoval (is_delivery command) (ViewsAfter command gone reply text arrived inside.views new.views) → OnDone reply (WhereTold IsSettled (g.content new.disk)) → IfRemoval (is_delivery command) ((a : Archive) → HoldsArchive g.content old a → OnDone reply (HoldsArchive g.content new (applied a command arrived).archive))
+        → ((form : Form) → IfRemoval (is_delivery command) (ViewsAfter form command gone reply text arrived inside.views new.views)) → OnDone reply (WhereTold IsSettled (g.content new.disk)) → IfRemoval (is_delivery command) ((a : Archive) → HoldsArchive g.content old a → OnDone reply (HoldsArchive g.content new (applied a command arrived).archive))
     removed-from new command arrived text gone reply done taken rows still = subst (λ (o : Owning D). IfRemoval (is_delivery command) ((a : Archive) → HoldsArchive g.content o a → OnDone reply (HoldsArchive g.content new (applied a command arrived).archive))) is (removed-at inside new command arrived text gone reply done taken rows still)
 
     pub done-from : (view : StoreState) (disk : D) (wanted : Archive → Done) (left : List ℕ → List ℕ) (reply : Answer) → ((a : Archive) (cache : List ℕ) → IsStoreWith inside.view cache a (g.content inside.disk) → DoneBy view cache (left cache) a (wanted a) reply (g.content disk))
@@ -615,7 +616,7 @@ module _ {D : Type 0} (g : Disk D)
     pub answer-cause-from : (faults : D → ℕ) (disk : D) (reply : Answer) → RoseIf (reply ≡ answer.DiskFault) (faults inside.disk) (faults disk) → AnswerCause (faults old.disk) (faults disk) reply
     answer-cause-from faults disk reply rose = subst (λ (o : Owning D). AnswerCause (faults o.disk) (faults disk) reply) is (answer-cause (faults inside.disk) (faults disk) reply rose)
 
-    pub opened-from : RecoversSomeOne → (new : Owning D) → Reopening inside new.disk → ((a : Archive) (cache : List ℕ) → ReadsWith cache a (g.content inside.disk) → IsStoreWith new.view cache a (g.content new.disk) × (new.views ≡ views_of (live a.entries))) → WhereTold IsSettled (g.content new.disk) → OpenedBy inside new → (s : LastKnown) → Stands old s
+    pub opened-from : RecoversSomeOne → (new : Owning D) → Reopening inside new.disk → ((a : Archive) (cache : List ℕ) → ReadsWith cache a (g.content inside.disk) → IsStoreWith new.view cache a (g.content new.disk) × (new.views ≡ views_of a.config.form (live a.entries))) → WhereTold IsSettled (g.content new.disk) → OpenedBy inside new → (s : LastKnown) → Stands old s
         → (t : LastKnown) × Going old s new t × Settles s t × (is_ready old ≡ false → FindsArchive g old new t.archive)
     opened-from one new run opened still by s fits =
         let found = subst (λ (o : Owning D). (s : LastKnown) → Stands o s → Found o s new) is (opened-at one inside new run opened still by) s fits in
@@ -663,7 +664,7 @@ module _ {D : Type 0} (g : Disk D)
     pub taken-from : CachesOne → (new : Owning D) (wanted : Archive → Done) (left : List ℕ → List ℕ) (reply : Answer) → ((cache : List ℕ) → (left cache ≡ cache) ⊎ (left cache ≡ [])) → (needs_opening reply ≡ true → new.stale ≡ true) → ((a : Archive) (cache : List ℕ) → IsStoreWith inside.view cache a (g.content inside.disk) → LeavesOnly g inside.disk new.disk (RecoversOneOf cache a (left cache) (wanted a).archive))
         → RunsBetween g inside.disk new.disk
         → ((a : Archive) (cache : List ℕ) → IsStoreWith inside.view cache a (g.content inside.disk) → DoneBy new.view cache (left cache) a (wanted a) reply (g.content new.disk))
-        → ((a : Archive) (cache : List ℕ) → IsStoreWith inside.view cache a (g.content inside.disk) → inside.views ≡ views_of (live a.entries) → ViewsKeepUp reply (is_ready new) new.views a (wanted a).archive)
+        → ((a : Archive) (cache : List ℕ) → IsStoreWith inside.view cache a (g.content inside.disk) → inside.views ≡ views_of a.config.form (live a.entries) → ViewsKeepUp reply (is_ready new) new.views a (wanted a).archive)
         → OnRefusal reply (UnlessFault reply (OnlyLooks g inside.disk new.disk)) → OnDone reply (WhereTold IsSettled (g.content new.disk)) → (a : Archive) → HoldsArchive g.content old a → (t : LastKnown) × Going old (standing a None) new t × CommandGives true (standing a None) wanted reply t
     taken-from caches new wanted left reply kept stale run crash_beside done rows untouched settled =
         subst (λ (o : Owning D). (a : Archive) → HoldsArchive g.content o a → (t : LastKnown) × Going o (standing a None) new t × CommandGives true (standing a None) wanted reply t) is
@@ -675,15 +676,15 @@ module _ {D : Type 0} (g : Disk D)
         subst (λ (o : Owning D). is_ready o ≡ true → ShelfStays (HoldsArchive g.content) is_ready (OnlyReadsOn g) (λ (p : Owning D). faults p.disk) o (record { disk = disk; view = inside.view; views = inside.views; stale = inside.stale })) is
         (λ at_hand. stays-at faults inside disk at_hand files run later) ready
 
-    pub refused-from : (new : Owning D) (ok : Bool) (command : Command) (gone : Option ℕ) (text : List ℕ) (arrived : ℕ) (reply : Answer) → old.stale ≡ false → new.stale ≡ (needs_opening reply || not ok) → OnRefusal reply (ok ≡ true) → OnRefusal reply (new.view ≡ inside.view)
-        → (ok ≡ true → ViewsAfter command gone reply text arrived inside.views new.views) → OnRefusal reply (UnlessFault reply (OnlyLooks g inside.disk new.disk)) → IfRefused reply (OnlyReadsOn g old new)
-    refused-from new ok command gone text arrived reply ready stale followed view rows looks =
-        subst (λ (o : Owning D). o.stale ≡ false → IfRefused reply (OnlyReadsOn g o new)) is (λ at_hand. refused-at inside new ok command gone text arrived reply at_hand stale followed view rows looks) ready
+    pub refused-from : (form : Form) (new : Owning D) (ok : Bool) (command : Command) (gone : Option ℕ) (text : List ℕ) (arrived : ℕ) (reply : Answer) → old.stale ≡ false → new.stale ≡ (needs_opening reply || not ok) → OnRefusal reply (ok ≡ true) → OnRefusal reply (new.view ≡ inside.view)
+        → (ok ≡ true → ViewsAfter form command gone reply text arrived inside.views new.views) → OnRefusal reply (UnlessFault reply (OnlyLooks g inside.disk new.disk)) → IfRefused reply (OnlyReadsOn g old new)
+    refused-from form new ok command gone text arrived reply ready stale followed view rows looks =
+        subst (λ (o : Owning D). o.stale ≡ false → IfRefused reply (OnlyReadsOn g o new)) is (λ at_hand. refused-at form inside new ok command gone text arrived reply at_hand stale followed view rows looks) ready
 
-    pub unmoved-from : (new : Owning D) (ok : Bool) (command : Command) (gone : Option ℕ) (text : List ℕ) (arrived : ℕ) (reply : Answer) → old.stale ≡ false → new.stale ≡ (needs_opening reply || not ok) → OnRefusal reply (ok ≡ true) → OnRefusal reply (new.view ≡ inside.view)
-        → (ok ≡ true → ViewsAfter command gone reply text arrived inside.views new.views) → IfUnreadFor command reply (new.disk ≡ inside.disk) → IfUnreadFor command reply (new ≡ old)
-    unmoved-from new ok command gone text arrived reply ready stale followed view rows disk =
-        subst (λ (o : Owning D). o.stale ≡ false → IfUnreadFor command reply (new ≡ o)) is (λ at_hand. unmoved-at inside new ok command gone text arrived reply at_hand stale followed view rows disk) ready
+    pub unmoved-from : (form : Form) (new : Owning D) (ok : Bool) (command : Command) (gone : Option ℕ) (text : List ℕ) (arrived : ℕ) (reply : Answer) → old.stale ≡ false → new.stale ≡ (needs_opening reply || not ok) → OnRefusal reply (ok ≡ true) → OnRefusal reply (new.view ≡ inside.view)
+        → (ok ≡ true → ViewsAfter form command gone reply text arrived inside.views new.views) → IfUnreadFor command reply (new.disk ≡ inside.disk) → IfUnreadFor command reply (new ≡ old)
+    unmoved-from form new ok command gone text arrived reply ready stale followed view rows disk =
+        subst (λ (o : Owning D). o.stale ≡ false → IfUnreadFor command reply (new ≡ o)) is (λ at_hand. unmoved-at form inside new ok command gone text arrived reply at_hand stale followed view rows disk) ready
 
 -- The answer to a command whose archive wasn't reopened, which was stale then.
 pub refused-comes : (was : Bool) (s t : LastKnown) (wanted : Archive → Done) (why : OpenRefusal) (reply : Answer) → reply ≡ opening_answer why → (was ≡ true → false ≡ true) → ReopeningRefused s why t → CommandGives was s wanted reply t

@@ -1,8 +1,9 @@
 -- The index of what a store keeps: that of an archive's entries, and with one more entry.
 use Rattle.std.specs.Prelude.{◌≡◌, ℕ, true, false, List, [], Option, Some, None, IsSome, unwrap_or, refl}
-use Rattle.std.proofs.Common.{◌∙◌, sym, subst}
+use Rattle.std.proofs.Common.{◌∙◌, sym, ap, subst}
+use Rattle.arch_base.specs.declared.config.Config.{Config}
 use Rattle.arch_base.specs.declared.ids.ObjectId.{ObjectId}
-use Rattle.arch_base.specs.declared.ids.Form.TheVariants as form
+use Rattle.arch_base.specs.declared.ids.Form.{Form}
 use Rattle.git_objects.specs.Objects.{blob_id_of}
 use Rattle.git_objects.specs.declared.entry_kind.EntryKind.{EntryKind}
 use Rattle.mail_reader.specs.Ids.{own_id}
@@ -24,18 +25,22 @@ pub in-order : (a : Archive) → IsArchive a → EntriesAreInOrder a.entries
 in-order a valid = record { each = valid.entries; order = valid.order; ends = valid.ends; ids = valid.ids }
 
 -- What a store keeps is that of its archive's entries.
-pub are-of : (v : StoreState) (a : Archive) → KeepsArchive v a → AreOf v.entries a.entries
+pub are-of : (v : StoreState) (a : Archive) → KeepsArchive v a → AreOf a.config.form v.entries a.entries
 are-of v a keeps = record { ordered = in-order a keeps.valid; is = keeps.kept }
 
-pub index-of_kept : (v : StoreState) (a : Archive) (index : Index) → KeepsArchive v a → IndexesStored v.entries index → IsArchiveIndex a.entries index
-index-of_kept v a index keeps indexed = indexed a.entries (are-of v a keeps)
+-- The archive has the form of the store's root.
+pub form-is : (v : StoreState) (a : Archive) → KeepsArchive v a → v.root.config.form ≡ a.config.form
+form-is v a keeps = ap (λ (c : Config). c.form) keeps.names.config
+
+pub index-of_kept : (v : StoreState) (a : Archive) (index : Index) → KeepsArchive v a → IndexesStored v.entries index → IsArchiveIndex a.config.form a.entries index
+index-of_kept v a index keeps indexed = indexed a.config.form a.entries (are-of v a keeps)
 
 id_of : (o : Option (List ℕ)) → IsSome o → o ≡ Some (unwrap_or o [])
 id_of None some = absurd (let no : false ≡ true = some in cc)
 id_of (Some id) some = refl
 
 -- An index with a new text is that of what is kept with it.
-pub indexes-added : (old new : StoreState) (before after : Index) (text : List ℕ) (blob : ObjectId) → IndexesStored old.entries before → blob ≡ blob_id_of form.Sha1 text → PutsText before after text blob old.root.next → AddsEntry old new text → IndexesStored new.entries after
+pub indexes-added : (old new : StoreState) (before after : Index) (text : List ℕ) (blob : ObjectId) → IndexesStored old.entries before → blob ≡ blob_id_of old.root.config.form text → PutsText before after text blob old.root.next → AddsEntry old new text → IndexesStored new.entries after
 indexes-added old new before after text blob indexed blob_is puts adds =
     let s = adds.entry in
     let put : IndexPuts before after s.seen.id blob (record { number = old.root.next; content = content_id_of text }) = puts s.seen.id adds.id in
@@ -54,7 +59,7 @@ indexes-ended old new before after number text indexed loses ends =
 
 -- The id of a text that is new to what is kept is free in the index, and the other way round.
 pub new-to : (kept : List StoredEntry) (index : Index) (text : List ℕ) → IndexesStored kept index → IsSome (own_id text) → ((id : List ℕ) → own_id text ≡ Some id → owner_in index.owners id ≡ None) → IsNewTo kept text
-new-to kept index text indexed some free entries are =
+new-to kept index text indexed some free form entries are =
     let id = unwrap_or (own_id text) [] in
     let own = id_of (own_id text) some in
-    (id, own, unowned entries index id (indexed entries are) (free id own))
+    (id, own, unowned entries index id (indexed form entries are) (free id own))

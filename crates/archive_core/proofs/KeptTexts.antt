@@ -1,6 +1,7 @@
 -- A delivery that isn't accepted keeps no text.
 use Rattle.std.specs.Prelude.{◌≡◌, ℕ, true}
 use Rattle.std.proofs.Common.{sym, subst}
+use Rattle.arch_base.specs.declared.ids.Form.{Form}
 use Rattle.archive_core.specs.declared.texts.KeptText.{KeptText}
 use Rattle.disk_model.specs.declared.name.FileName.{FileName}
 use Rattle.arch_model.specs.declared.answer.Answer.{Answer}
@@ -15,7 +16,7 @@ use Rattle.store_finding.specs.Kept.{StoreState}
 use Rattle.archive_core.specs.Commands.{AnswersDelivery, AnswersEdit, IsForCommand, OnDone, TellsText, is_delivery, refusal_answer}
 use Rattle.archive_core.specs.Kept.{TakesWhatMay}
 
-pub refuse-tells : (v : StoreState) (index : Index) (reply : Answer) (text : KeptText) → TakesWhatMay v index (Refuse reply) → TellsText reply text
+pub refuse-tells : (v : StoreState) (index : Index) (reply : Answer) (text : KeptText) → TakesWhatMay v index (Refuse reply) → TellsText v.root.config.form reply text
 refuse-tells v index (answer.Ok number id) text never = absurd never
 refuse-tells v index answer.NoMemory text is = tt
 refuse-tells v index (answer.Duplicate number) text is = tt
@@ -63,8 +64,8 @@ error-then refusal.DiskFault P fault short damage = fault
 error-then refusal.NoMemory P fault short damage = short
 error-then (refusal.Damaged file at) P fault short damage = damage file at
 
-pub error-tells : (why : StoreRefusal) (reply : Answer) (text : KeptText) → reply ≡ refusal_answer why → TellsText reply text
-error-tells why reply text is = subst (λ (r : Answer). TellsText r text) (sym is) (error-then why (λ (r : Answer). TellsText r text) tt tt (λ file at. tt))
+pub error-tells : (form : Form) (why : StoreRefusal) (reply : Answer) (text : KeptText) → reply ≡ refusal_answer why → TellsText form reply text
+error-tells form why reply text is = subst (λ (r : Answer). TellsText form r text) (sym is) (error-then why (λ (r : Answer). TellsText form r text) tt tt (λ file at. tt))
 
 pub error-done : (why : StoreRefusal) (reply : Answer) (P : Type 0) → reply ≡ refusal_answer why → OnDone reply P
 error-done why reply P is = subst (λ (r : Answer). OnDone r P) (sym is) (error-then why (λ (r : Answer). OnDone r P) tt tt (λ file at. tt))

@@ -12,6 +12,7 @@ use Rattle.arch_model.specs.Archives.{Entry, is_message, messages, text_of}
 use Rattle.arch_model.specs.Validity.{NumberIsFrom, number_after, Rise}
 use Rattle.store_finding.specs.declared.entries.StoredEntry.{StoredEntry}
 use Rattle.epoch_store.specs.Commands.{is_ended_in, live_kept}
+use Rattle.arch_base.specs.declared.ids.Form.{Form}
 use Rattle.store_finding.specs.Kept.{stored_after}
 use Rattle.archive_core.specs.Numbers.{has_number, has_live}
 use Rattle.archive_core.specs.Placing.{message_places, has_ended, PlacesFrom, PlacesRise, live_place}
@@ -43,11 +44,11 @@ rise_step : (k : EntryKind) (number own index : ℕ) (live : Bool) (ps : List Me
 rise_step Message number own index live ps low rest = (low, rest)
 rise_step Deletion number own index live ps low rest = rest
 
-pub places-rise : (before es : List Entry) (index number epoch : ℕ) → Rise number epoch es → PlacesFrom number (message_places index (stored_after before es))
-places-rise before [] index number epoch rise = tt
-places-rise before (e ∷ es) index number epoch rise =
-    rise_step e.kind number e.number index (not (is_ended_in (stored_after (before ++ e ∷ []) es) e.number)) (message_places (index + 1) (stored_after (before ++ e ∷ []) es)) rise.0
-    (places-rise (before ++ e ∷ []) es (index + 1) (number_after e.kind number e.number) e.epoch rise.2)
+pub places-rise : (form : Form) (before es : List Entry) (index number epoch : ℕ) → Rise number epoch es → PlacesFrom number (message_places index (stored_after form before es))
+places-rise form before [] index number epoch rise = tt
+places-rise form before (e ∷ es) index number epoch rise =
+    rise_step e.kind number e.number index (not (is_ended_in (stored_after form (before ++ e ∷ []) es) e.number)) (message_places (index + 1) (stored_after form (before ++ e ∷ []) es)) rise.0
+    (places-rise form (before ++ e ∷ []) es (index + 1) (number_after e.kind number e.number) e.epoch rise.2)
 
 pub places-low : (low number : ℕ) (ps : List MessagePlace) → low ≤ number → PlacesFrom number ps → PlacesFrom low ps
 places-low low number [] less from = tt
@@ -172,8 +173,8 @@ place_step : (k : EntryKind) (e : Entry) (es : List Entry) (index n : ℕ) (live
 place_step Message e es index n live ps text rest is = first_or (e.number == n) (place_of e.number index live) ps n e.text text (text_of (messages es) n) refl rest is
 place_step Deletion e es index n live ps text rest is = rest is
 
-pub message-place : (before es : List Entry) (index n : ℕ) (text : List ℕ) → text_of (messages es) n ≡ Some text → NumberPlace (message_places index (stored_after before es)) n
-message-place before [] index n text is = absurd (cc)
-message-place before (e ∷ es) index n text is =
-    place_step e.kind e es index n (not (is_ended_in (stored_after (before ++ e ∷ []) es) e.number)) (message_places (index + 1) (stored_after (before ++ e ∷ []) es)) text
-    (λ more. message-place (before ++ e ∷ []) es (index + 1) n text more) is
+pub message-place : (form : Form) (before es : List Entry) (index n : ℕ) (text : List ℕ) → text_of (messages es) n ≡ Some text → NumberPlace (message_places index (stored_after form before es)) n
+message-place form before [] index n text is = absurd (cc)
+message-place form before (e ∷ es) index n text is =
+    place_step e.kind e es index n (not (is_ended_in (stored_after form (before ++ e ∷ []) es) e.number)) (message_places (index + 1) (stored_after form (before ++ e ∷ []) es)) text
+    (λ more. message-place form (before ++ e ∷ []) es (index + 1) n text more) is

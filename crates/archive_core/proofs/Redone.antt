@@ -3,7 +3,6 @@ use Rattle.std.specs.Prelude.{◌≡◌, ◌+◌, ◌-◌, ◌<◌, ◌^◌, ℕ
 use Rattle.std.proofs.Common.{sym, ap, subst, arith}
 use Rattle.arch_base.specs.Counts.{RoseIf}
 use Rattle.arch_base.specs.declared.ids.ObjectId.{ObjectId}
-use Rattle.arch_base.specs.declared.ids.Form.TheVariants as form
 use Rattle.mail_commits.specs.declared.ids.TextIds.{TextIds}
 use Rattle.disk_model.specs.declared.disk.Disk.{Ghosts as Disk}
 use Rattle.disk_model.specs.Disk.{Files, Image, WhereTold}
@@ -59,7 +58,7 @@ late-delivery : (reply : Answer) → IsLate reply → AnswersDelivery reply
 late-delivery reply late = late-then reply AnswersDelivery late (λ n. tt) (λ max. tt) (λ n. tt) tt (λ file at. tt) tt
 
 -- The index of the entries that stay is that of the archive without the text.
-edit-index : (v : StoreState) (a : Archive) (n : ℕ) (blob : ObjectId) (index : Index) (gone : List ℕ) → KeepsArchive v a → MayPurge v n blob → IndexesKept (without_blob v.entries blob) index → text_of (live a.entries) n ≡ Some gone → IsArchiveIndex (without_entries a gone).entries index
+edit-index : (v : StoreState) (a : Archive) (n : ℕ) (blob : ObjectId) (index : Index) (gone : List ℕ) → KeepsArchive v a → MayPurge v n blob → IndexesKept (without_blob v.entries blob) index → text_of (live a.entries) n ≡ Some gone → IsArchiveIndex a.config.form (without_entries a gone).entries index
 edit-index v a n blob index gone keeps may indexed shown =
     let is = live-message-is a n gone keeps.valid shown in
     index-without v a index blob gone keeps (message-agrees a n gone keeps.valid is) (purge-blob v a n blob gone keeps may is) indexed
@@ -113,7 +112,7 @@ module _ {D : Type 0} (g : Disk D)
       (judges : JudgesOn g.content old v index bytes (Take text ids n)) (looks : OnlyLooks g old mid) (steady : g.faults mid ≡ g.faults old) where
     -- The archive after it, and that no other text has its blob id.
     taken_is : (a : Archive) (cache gone : List ℕ) → IsStoreWith v cache a (g.content old) → text_of (live a.entries) number ≡ Some gone
-        → (unless_refused a (delivered (without_entries a gone) bytes arrived) ≡ record { archive = with_entry (without_entries a gone) (new_epoch (without_entries a gone)) text arrived; answer = answer.Ok n ids.blob }) × (blob_id_of form.Sha1 gone ≡ blob) × (collision (without_entries a gone).entries text ≡ None)
+        → (unless_refused a (delivered (without_entries a gone) bytes arrived) ≡ record { archive = with_entry (without_entries a gone) (new_epoch (without_entries a gone)) text arrived; answer = answer.Ok n ids.blob }) × (blob_id_of a.config.form gone ≡ blob) × (collision a.config.form (without_entries a gone).entries text ≡ None)
     taken_is a cache gone store shown =
         let keeps = store_keeps v cache a (g.content old) store in
         let judged = judges a cache (Some gone) store (edit-index v a number blob index gone keeps may indexed shown) in

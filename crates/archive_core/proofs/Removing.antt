@@ -6,7 +6,6 @@ use Rattle.std.proofs.Common.{◌∙◌, sym, ap, subst, arith}
 use Rattle.std.proofs.lemmas.Bool.Decides.{nat_tests}
 use Rattle.std.proofs.lemmas.Slice.Eq.{bytes_eq-Decides}
 use Rattle.std.proofs.lemmas.Option.{slice_get-get_or, get_or_from_slice_get, same_Some}
-use Rattle.arch_base.specs.declared.ids.Form.TheVariants as form
 use Rattle.git_objects.specs.Objects.{blob_id_of}
 use Rattle.git_objects.specs.declared.entry_kind.EntryKind.{EntryKind}
 use Rattle.git_objects.specs.declared.entry_kind.EntryKind.TheVariants.{Message, Deletion}
@@ -53,7 +52,7 @@ id_of (Some id) some = refl
 -- The entry of a live message has the own id of the text that is shown.
 pub named-at : (v : StoreState) (a : Archive) (n i : ℕ) (text : List ℕ) → KeepsArchive v a → IsLiveAt v.entries n i → text_of (live a.entries) n ≡ Some text → IsNamed v.entries i text
 named-at v a n i text keeps at shown =
-    let found = kept-at [] a.entries i at.message.entry (ap (λ (es : List StoredEntry). slice_get es i) (sym keeps.kept) ∙ at.message.there) in
+    let found = kept-at a.config.form [] a.entries i at.message.entry (ap (λ (es : List StoredEntry). slice_get es i) (sym keeps.kept) ∙ at.message.there) in
     let e : Entry = found.entry in
     let read : text_of (live a.entries) n ≡ Some e.text = entry-text v a keeps n i at e.text (ap text_if found.there) in
     let same : text ≡ e.text = same_Some text e.text (sym shown ∙ read) in
@@ -67,7 +66,7 @@ shown_by v a number moment found keeps is shown =
     ∙ ap (removed_text a number moment) shown
 
 pub removed-is : (v : StoreState) (a : Archive) (number moment : ℕ) (text : List ℕ) → KeepsArchive v a → v.root.config.mirror ≡ false → text_of (live a.entries) number ≡ Some text
-    → removed a number moment ≡ record { archive = with_deletion a number (new_epoch a) text moment; answer = answer.Ok number (blob_id_of form.Sha1 text) }
+    → removed a number moment ≡ record { archive = with_deletion a number (new_epoch a) text moment; answer = answer.Ok number (blob_id_of a.config.form text) }
 removed-is v a number moment text keeps is shown = shown_by v a number moment (Some text) keeps is shown
 
 -- The places after one more entry.

@@ -53,9 +53,9 @@ pub archive_taken : (a : Archive) (text slice : List ℕ) (moment : ℕ) (wanted
 archive_taken a text slice moment wanted reply is judged = ap (λ (t : List ℕ). with_entry a (new_epoch a) t moment) is ∙ sym (ap (λ (d : Done). d.archive) judged)
 
 -- So the archive before becomes that one, if no other text has the blob id.
-pub adds-taken : (a : Archive) (text slice : List ℕ) (moment : ℕ) (wanted : Done) (reply : Answer) → slice ≡ text → wanted ≡ record { archive = with_entry a (new_epoch a) text moment; answer = reply } → collision a.entries text ≡ None → AddsMessage slice moment a wanted.archive
+pub adds-taken : (a : Archive) (text slice : List ℕ) (moment : ℕ) (wanted : Done) (reply : Answer) → slice ≡ text → wanted ≡ record { archive = with_entry a (new_epoch a) text moment; answer = reply } → collision a.config.form a.entries text ≡ None → AddsMessage slice moment a wanted.archive
 adds-taken a text slice moment wanted reply is judged alone = record {
-  alone = subst (λ (t : List ℕ). collision a.entries t ≡ None) (sym is) alone;
+  alone = subst (λ (t : List ℕ). collision a.config.form a.entries t ≡ None) (sym is) alone;
   is = sym (archive_taken a text slice moment wanted reply is judged);
 }
 

@@ -3,6 +3,7 @@ use Rattle.std.proofs.Common.{◌≡◌, ◌<◌, ◌≤◌, ◌==◌, ◌&&◌,
 use Rattle.std.specs.List.{Contains}
 use Rattle.std.proofs.lemmas.Bool.Decides.{nat_tests}
 use Rattle.std.proofs.lemmas.Option.{same_Some}
+use Rattle.arch_base.specs.declared.ids.Form.{Form}
 use Rattle.git_objects.specs.declared.entry_kind.EntryKind.{EntryKind}
 use Rattle.git_objects.specs.declared.entry_kind.EntryKind.TheVariants.{Message, Deletion}
 use Rattle.arch_model.specs.Archives.{Entry, is_message, is_ended, live, messages, text_of}
@@ -13,66 +14,66 @@ use Rattle.epoch_store.specs.Commands.{is_ended_in, live_kept}
 use Rattle.store_finding.specs.Kept.{stored_at, stored_after}
 use Rattle.archive_core.specs.Numbers.{has_number, has_live}
 
--- What is kept of an entry, after some others.
-abbrev pub IsKeptOf : StoredEntry → Entry → Type 0
-IsKeptOf s e = (before : List Entry) × (s ≡ stored_at before e)
+-- What is kept of an entry, after some others, with ids of a form.
+abbrev pub IsKeptOf : Form → StoredEntry → Entry → Type 0
+IsKeptOf form s e = (before : List Entry) × (s ≡ stored_at form before e)
 
 -- The same of entries, one by one.
-abbrev pub AreKeptOf : List StoredEntry → List Entry → Type 0
-AreKeptOf [] [] = Unit {0}
-AreKeptOf [] (e ∷ es) = ⊥
-AreKeptOf (s ∷ ss) [] = ⊥
-AreKeptOf (s ∷ ss) (e ∷ es) = IsKeptOf s e × AreKeptOf ss es
+abbrev pub AreKeptOf : Form → List StoredEntry → List Entry → Type 0
+AreKeptOf form [] [] = Unit {0}
+AreKeptOf form [] (e ∷ es) = ⊥
+AreKeptOf form (s ∷ ss) [] = ⊥
+AreKeptOf form (s ∷ ss) (e ∷ es) = IsKeptOf form s e × AreKeptOf form ss es
 
-ended-same : (before es : List Entry) (n : ℕ) → is_ended_in (stored_after before es) n ≡ is_ended es n
-ended-same before [] n = refl
-ended-same before (e ∷ es) n = ap (λ (b : Bool). (not (is_message e.kind) && e.number == n) || b) (ended-same (before ++ e ∷ []) es n)
+ended-same : (form : Form) (before es : List Entry) (n : ℕ) → is_ended_in (stored_after form before es) n ≡ is_ended es n
+ended-same form before [] n = refl
+ended-same form before (e ∷ es) n = ap (λ (b : Bool). (not (is_message e.kind) && e.number == n) || b) (ended-same form (before ++ e ∷ []) es n)
 
-kept_step : (t u : Bool) (s : StoredEntry) (e : Entry) (ss : List StoredEntry) (es : List Entry) → t ≡ u → IsKeptOf s e → AreKeptOf ss es → AreKeptOf (if t then s ∷ ss else ss) (if u then e ∷ es else es)
-kept_step true true s e ss es same one rest = (one, rest)
-kept_step true false s e ss es same one rest = absurd (cc)
-kept_step false true s e ss es same one rest = absurd (cc)
-kept_step false false s e ss es same one rest = rest
+kept_step : (form : Form) (t u : Bool) (s : StoredEntry) (e : Entry) (ss : List StoredEntry) (es : List Entry) → t ≡ u → IsKeptOf form s e → AreKeptOf form ss es → AreKeptOf form (if t then s ∷ ss else ss) (if u then e ∷ es else es)
+kept_step form true true s e ss es same one rest = (one, rest)
+kept_step form true false s e ss es same one rest = absurd (cc)
+kept_step form false true s e ss es same one rest = absurd (cc)
+kept_step form false false s e ss es same one rest = rest
 
 -- What is live of what is kept is what is kept of the live entries.
-pub live-kept : (before es : List Entry) → AreKeptOf (live_kept (stored_after before es)) (live es)
-live-kept before [] = tt
-live-kept before (e ∷ es) =
-    kept_step (is_message e.kind && not (is_ended_in (stored_after (before ++ e ∷ []) es) e.number)) (is_message e.kind && not (is_ended es e.number)) (stored_at before e) e (live_kept (stored_after (before ++ e ∷ []) es)) (live es)
-    (ap (λ (b : Bool). is_message e.kind && not b) (ended-same (before ++ e ∷ []) es e.number)) (before, refl) (live-kept (before ++ e ∷ []) es)
+pub live-kept : (form : Form) (before es : List Entry) → AreKeptOf form (live_kept (stored_after form before es)) (live es)
+live-kept form before [] = tt
+live-kept form before (e ∷ es) =
+    kept_step form (is_message e.kind && not (is_ended_in (stored_after form (before ++ e ∷ []) es) e.number)) (is_message e.kind && not (is_ended es e.number)) (stored_at form before e) e (live_kept (stored_after form (before ++ e ∷ []) es)) (live es)
+    (ap (λ (b : Bool). is_message e.kind && not b) (ended-same form (before ++ e ∷ []) es e.number)) (before, refl) (live-kept form (before ++ e ∷ []) es)
 
 -- It has the numbers of the entries.
 number_step : (t : Bool) (text : List ℕ) (rest : Bool) (found : Option (List ℕ)) → rest ≡ is_some found → (t || rest) ≡ is_some (if t then Some text else found)
 number_step true text rest found is = refl
 number_step false text rest found is = is
 
-pub numbers-kept : (ss : List StoredEntry) (es : List Entry) (n : ℕ) → AreKeptOf ss es → has_number ss n ≡ is_some (text_of es n)
-numbers-kept [] [] n kept = refl
-numbers-kept [] (e ∷ es) n kept = absurd kept
-numbers-kept (s ∷ ss) [] n kept = absurd kept
-numbers-kept (s ∷ ss) (e ∷ es) n kept =
+pub numbers-kept : (form : Form) (ss : List StoredEntry) (es : List Entry) (n : ℕ) → AreKeptOf form ss es → has_number ss n ≡ is_some (text_of es n)
+numbers-kept form [] [] n kept = refl
+numbers-kept form [] (e ∷ es) n kept = absurd kept
+numbers-kept form (s ∷ ss) [] n kept = absurd kept
+numbers-kept form (s ∷ ss) (e ∷ es) n kept =
     ap (λ (x : StoredEntry). x.number == n || has_number ss n) kept.0.1
-    ∙ number_step (e.number == n) e.text (has_number ss n) (text_of es n) (numbers-kept ss es n kept.1)
+    ∙ number_step (e.number == n) e.text (has_number ss n) (text_of es n) (numbers-kept form ss es n kept.1)
 
 -- A number is live in what is kept just if it is shown.
-pub has_live-is : (es : List Entry) (n : ℕ) → has_live (stored_after [] es) n ≡ is_some (text_of (live es) n)
-has_live-is es n = numbers-kept (live_kept (stored_after [] es)) (live es) n (live-kept [] es)
+pub has_live-is : (form : Form) (es : List Entry) (n : ℕ) → has_live (stored_after form [] es) n ≡ is_some (text_of (live es) n)
+has_live-is form es n = numbers-kept form (live_kept (stored_after form [] es)) (live es) n (live-kept form [] es)
 
 -- As many are kept as there are.
-pub stored-length : (before es : List Entry) → length (stored_after before es) ≡ length es
-stored-length before [] = refl
-stored-length before (e ∷ es) = let rest = stored-length (before ++ e ∷ []) es in omega (arith, rest)
+pub stored-length : (form : Form) (before es : List Entry) → length (stored_after form before es) ≡ length es
+stored-length form before [] = refl
+stored-length form before (e ∷ es) = let rest = stored-length form (before ++ e ∷ []) es in omega (arith, rest)
 
 -- The entry of which something is kept at an index.
-pub record KeptAt (es : List Entry) (i : ℕ) (s : StoredEntry) : Type 0 where
+pub record KeptAt (form : Form) (es : List Entry) (i : ℕ) (s : StoredEntry) : Type 0 where
   pub entry : Entry
   pub there : slice_get es i ≡ Some entry
-  pub kept : IsKeptOf s entry
+  pub kept : IsKeptOf form s entry
 
-pub kept-at : (before es : List Entry) (i : ℕ) (s : StoredEntry) → slice_get (stored_after before es) i ≡ Some s → KeptAt es i s
-kept-at before [] i s there = absurd (cc)
-kept-at before (e ∷ es) zero s there = record { entry = e; there = refl; kept = (before, sym (same_Some (stored_at before e) s there)) }
-kept-at before (e ∷ es) (suc i) s there = let rest = kept-at (before ++ e ∷ []) es i s there in record { entry = rest.entry; there = rest.there; kept = rest.kept }
+pub kept-at : (form : Form) (before es : List Entry) (i : ℕ) (s : StoredEntry) → slice_get (stored_after form before es) i ≡ Some s → KeptAt form es i s
+kept-at form before [] i s there = absurd (cc)
+kept-at form before (e ∷ es) zero s there = record { entry = e; there = refl; kept = (before, sym (same_Some (stored_at form before e) s there)) }
+kept-at form before (e ∷ es) (suc i) s there = let rest = kept-at form (before ++ e ∷ []) es i s there in record { entry = rest.entry; there = rest.there; kept = rest.kept }
 
 -- The number of a message is that of its text.
 message_here : (k : EntryKind) (e : Entry) (es : List Entry) → is_message k ≡ true → text_of (if is_message k then e ∷ messages es else messages es) e.number ≡ Some e.text

@@ -3,13 +3,13 @@ use Rattle.std.specs.Prelude.{◌≡◌, ℕ, false, List, slice_get, Option, So
 use Rattle.std.proofs.Common.{◌∙◌, sym, ap, subst, inl, inr}
 use Rattle.disk_model.specs.declared.name.FileName.{FileName}
 use Rattle.disk_model.specs.Disk.{Content, BothTold, Unchanged, WhereTold}
+use Rattle.arch_base.specs.Ids.{form_of}
 use Rattle.git_objects.specs.Objects.{blob_id_of}
 use Rattle.arch_model.specs.declared.answer.Answer.{Answer}
 use Rattle.arch_model.specs.declared.answer.Answer.TheVariants as answer
 use Rattle.arch_model.specs.declared.text_refusal.TextRefusal.{TextRefusal}
 use Rattle.arch_model.specs.declared.text_refusal.TextRefusal.TheVariants as reading
 use Rattle.arch_base.specs.declared.config.Config.{Config}
-use Rattle.arch_base.specs.declared.ids.Form.TheVariants as form
 use Rattle.arch_judge.specs.Judging.{IsForDelivery, MayTake, RefusesLast}
 use Rattle.arch_judge.specs.declared.index.Index.{Index}
 use Rattle.arch_judge.specs.declared.judging.Verdict.{Verdict}
@@ -18,6 +18,7 @@ use Rattle.epoch_file.specs.declared.refusal.StoreRefusal.{StoreRefusal}
 use Rattle.epoch_file.specs.declared.refusal.StoreRefusal.TheVariants as refusal
 use Rattle.store_finding.specs.declared.entries.StoredEntry.{StoredEntry}
 use Rattle.store_planning.specs.DamagedTexts.{DamageBy, IsDamageIn, IsDamagedEntry}
+use Rattle.epoch_store.proofs.OwnForm.{in_own_form}
 use Rattle.epoch_store.specs.Reads.{FindsText, GivesText}
 use Rattle.store_finding.specs.Reading.{HasText}
 use Rattle.store_finding.specs.Kept.{StoreState}
@@ -52,7 +53,7 @@ place-damage v index old new (reading.Damaged named other) k gives finds = at_pl
   lacks s here None found = tt
   lacks s here (Some c) found = λ has.
       let given = gives s here in
-      given.2 (found.2 ∙ (ap (blob_id_of form.Sha1) (found.1 has.long) ∙ (has.blob ∙ sym given.1)))
+      given.2 (found.2 ∙ (ap (blob_id_of (form_of s.seen.blob)) (found.1 has.long) ∙ (in_own_form has.blob ∙ sym given.1)))
 
   at_place : (o : Option StoredEntry) → slice_get v.entries index ≡ o → TellsEntry v k (damaged_place v o)
   at_place None here = tt

@@ -6,7 +6,6 @@ use Rattle.std.proofs.lemmas.Slice.Eq.{bytes_eq-Decides}
 use Rattle.arch_base.specs.Counts.{RoseIf}
 use Rattle.arch_base.specs.declared.config.Config.{Config}
 use Rattle.arch_base.specs.declared.ids.ObjectId.{ObjectId}
-use Rattle.arch_base.specs.declared.ids.Form.TheVariants as form
 use Rattle.mail_commits.specs.Ids.{text_ids_of}
 use Rattle.mail_commits.specs.declared.ids.TextIds.{TextIds}
 use Rattle.git_objects.specs.Objects.{blob_id_of}
@@ -105,7 +104,7 @@ may-go v index text ids number indexed may =
         writable = may.comes.writable;
         number_left = may.number_left;
         storage = may.comes.storage;
-        id = λ a keeps. fresh a.entries (are-of v a keeps);
+        id = λ a keeps. fresh a.config.form a.entries (are-of v a keeps);
       };
       new_id = fresh;
       ids_are = may.comes.ids_are;
@@ -132,27 +131,31 @@ refuses-message v a number index old new reading.NoMemory reply is given = subst
 refuses-message v a number index old new (reading.Damaged named found) reply is given = absurd given
 
 -- The texts are compared as the definition has it.
-pub compares : (a : Archive) (bytes text kept : List ℕ) (blob : ObjectId) (number : ℕ) → BlobsAgree a.entries → Compares a bytes text blob number → ReadsMessage a number (Ok kept) → (moment : ℕ) → delivered a bytes moment ≡ delivered_kept a text moment (unless_same text kept number)
+pub compares : (a : Archive) (bytes text kept : List ℕ) (blob : ObjectId) (number : ℕ) → BlobsAgree a.config.form a.entries → Compares a bytes text blob number → ReadsMessage a number (Ok kept) → (moment : ℕ) → delivered a bytes moment ≡ delivered_kept a text moment (unless_same text kept number)
 compares a bytes text kept blob number agree decides reads moment = decides.decides agree kept (reads blob decides.first) moment
+
+-- The ids of a text in the form of some settings are those in the form of an archive that has them.
+ids-by : (a : Archive) (config : Config) (text : List ℕ) (ids : TextIds) → a.config ≡ config → ids ≡ text_ids_of config.form text → ids ≡ text_ids_of a.config.form text
+ids-by a config text ids same is = is ∙ ap (λ (c : Config). text_ids_of c.form text) (sym same)
 
 -- No other text has the blob id of one that is taken: no entry has it, or the first that has it has the
 -- same text.
-pub alone-new : (a : Archive) (index : Index) (text : List ℕ) (ids : TextIds) → IsArchiveIndex a.entries index → ids ≡ text_ids_of form.Sha1 text → number_in index.blobs ids.blob ≡ None → collision a.entries text ≡ None
+pub alone-new : (a : Archive) (index : Index) (text : List ℕ) (ids : TextIds) → IsArchiveIndex a.config.form a.entries index → ids ≡ text_ids_of a.config.form text → number_in index.blobs ids.blob ≡ None → collision a.config.form a.entries text ≡ None
 alone-new a index text ids indexed ids_are none =
-    collision-alone a.entries text
-    (subst (λ (i : TextIds). blob_number a.entries i.blob ≡ None) ids_are (sym (indexed.blobs ids.blob) ∙ none))
+    collision-alone a.config.form a.entries text
+    (subst (λ (i : TextIds). blob_number a.config.form a.entries i.blob ≡ None) ids_are (sym (indexed.blobs ids.blob) ∙ none))
 
-pub alone-final : (a : Archive) (config : Config) (index : Index) (next : ℕ) (verdict : Verdict) → IsArchiveIndex a.entries index → MayTake config index next verdict → IsAlone a verdict
-alone-final a config index next (Take text ids number) indexed may = alone-new a index text ids indexed may.0.comes.ids_are may.1
-alone-final a config index next (Refuse reply) indexed may = tt
+pub alone-final : (a : Archive) (config : Config) (index : Index) (next : ℕ) (verdict : Verdict) → a.config ≡ config → IsArchiveIndex a.config.form a.entries index → MayTake config index next verdict → IsAlone a verdict
+alone-final a config index next (Take text ids number) same indexed may = alone-new a index text ids indexed (ids-by a config text ids same may.0.comes.ids_are) may.1
+alone-final a config index next (Refuse reply) same indexed may = tt
 
-pub alone-same : (a : Archive) (config : Config) (index : Index) (next : ℕ) (text kept : List ℕ) (ids : TextIds) (number : ℕ) (verdict : Verdict) → BlobsAgree a.entries → IsArchiveIndex a.entries index → ids ≡ text_ids_of form.Sha1 text → number_in index.blobs ids.blob ≡ Some number → ReadsMessage a number (Ok kept)
+pub alone-same : (a : Archive) (config : Config) (index : Index) (next : ℕ) (text kept : List ℕ) (ids : TextIds) (number : ℕ) (verdict : Verdict) → a.config ≡ config → BlobsAgree a.config.form a.entries → IsArchiveIndex a.config.form a.entries index → ids ≡ text_ids_of config.form text → number_in index.blobs ids.blob ≡ Some number → ReadsMessage a number (Ok kept)
     → TakesThis config next text ids verdict → TakesSame text kept verdict → IsAlone a verdict
-alone-same a config index next text kept ids number (Take taken named n) agree indexed ids_are known reads this same =
-    let first : blob_number a.entries ids.blob ≡ Some number = sym (indexed.blobs ids.blob) ∙ known in
-    let at_text : blob_number a.entries (blob_id_of form.Sha1 text) ≡ Some number = subst (λ (i : TextIds). blob_number a.entries i.blob ≡ Some number) ids_are first in
-    let read : blob_text a.entries (blob_id_of form.Sha1 text) ≡ Some kept = reads (blob_id_of form.Sha1 text) at_text in
+alone-same a config index next text kept ids number (Take taken named n) config_is agree indexed ids_are known reads this same =
+    let first : blob_number a.config.form a.entries ids.blob ≡ Some number = sym (indexed.blobs ids.blob) ∙ known in
+    let at_text : blob_number a.config.form a.entries (blob_id_of a.config.form text) ≡ Some number = subst (λ (i : TextIds). blob_number a.config.form a.entries i.blob ≡ Some number) (ids-by a config text ids config_is ids_are) first in
+    let read : blob_text a.config.form a.entries (blob_id_of a.config.form text) ≡ Some kept = reads (blob_id_of a.config.form text) at_text in
     let equal : bytes_eq text kept ≡ true = (bytes_eq-Decides text kept).1 (sym same) in
-    subst (λ (t : List ℕ). collision a.entries t ≡ None) (sym this.0)
-    (collision-first a.entries text kept number agree at_text read ∙ ap (λ (t : Bool). if t then None else Some number) equal)
-alone-same a config index next text kept ids number (Refuse reply) agree indexed ids_are known reads this same = tt
+    subst (λ (t : List ℕ). collision a.config.form a.entries t ≡ None) (sym this.0)
+    (collision-first a.config.form a.entries text kept number agree at_text read ∙ ap (λ (t : Bool). if t then None else Some number) equal)
+alone-same a config index next text kept ids number (Refuse reply) config_is agree indexed ids_are known reads this same = tt

@@ -1,8 +1,8 @@
 -- What is walked through of a store.
 use Rattle.std.specs.Prelude.{◌≡◌, ◌<◌, ℕ, zero, suc, List, [], ◌∷◌, length, slice_get, Option, Some, None, Result, Ok, Err, IfErr, refl}
-use Rattle.std.proofs.Common.{◌∙◌, sym, ap, arith}
+use Rattle.std.proofs.Common.{◌∙◌, sym, ap, subst, arith}
 use Rattle.std.proofs.lemmas.Option.{same_Some}
-use Rattle.arch_base.specs.declared.ids.Form.TheVariants as form
+use Rattle.arch_base.specs.Ids.{form_of}
 use Rattle.disk_model.specs.Disk.{Content, WhereTold}
 use Rattle.git_objects.specs.Objects.{blob_id_of}
 use Rattle.arch_model.specs.Archives.{Entry, Archive}
@@ -14,6 +14,7 @@ use Rattle.arch_model.specs.declared.text_refusal.TextRefusal.TheVariants as rea
 use Rattle.epoch_store.specs.Reads.{line_of, line_if, GivesText, FindsText, GivesTextOf, HasTexts, text_if}
 use Rattle.store_finding.specs.Kept.{StoreState}
 use Rattle.store_finding.specs.declared.entries.StoredEntry.{StoredEntry}
+use Rattle.epoch_store.proofs.OwnForm.{in_own_form}
 use Rattle.archive_core.specs.Numbers.{TellsOther}
 use Rattle.archive_core.specs.Walks.{lines_kept, IsSound}
 
@@ -34,7 +35,7 @@ line-kept-of (s ∷ ss) (suc i) line is = line-kept-of ss i line is
 
 -- The text of an entry is that of its line.
 pub gives-line : (s : StoredEntry) (line : EntryLine) (old new : List ℕ) (r : Result Unit TextRefusal) → line_of s ≡ line → GivesText s old new r → GivesLine line old new r
-gives-line s line old new (Ok x) same given = (given.0, given.1.blob ∙ ap (λ (l : EntryLine). l.blob) same, given.2)
+gives-line s line old new (Ok x) same given = (given.0, subst (λ (l : EntryLine). blob_id_of (form_of l.blob) given.0 ≡ l.blob) same given.1.blob, given.2)
 gives-line s line old new (Err reading.DiskFault) same given = given
 gives-line s line old new (Err reading.NoMemory) same given = given
 gives-line s line old new (Err (reading.Damaged named found)) same given = (given.0, given.1 ∙ ap (λ (l : EntryLine). l.blob) same, given.2)
@@ -55,7 +56,7 @@ sound-undamaged v k i s old new reading.DiskFault texts there given finds = tt
 sound-undamaged v k i s old new reading.NoMemory texts there given finds = tt
 sound-undamaged v k i s old new (reading.Damaged named found) texts there given finds =
     let here = texts i s there in
-    let same : found ≡ named = finds.2 ∙ ap (blob_id_of form.Sha1) (finds.1 here.long) ∙ here.blob ∙ sym given.1 in
+    let same : found ≡ named = finds.2 ∙ ap (blob_id_of (form_of s.seen.blob)) (finds.1 here.long) ∙ in_own_form here.blob ∙ sym given.1 in
     given.2 same
 
 pub sound-if : (v : StoreState) (k : Option Content) (i : ℕ) (s : StoredEntry) (old new : List ℕ) (r : Result Unit TextRefusal) → IsSound v k → slice_get v.entries i ≡ Some s → GivesText s old new r → WhereTold (FindsText v.root s old new r) k → IfErr r IsUndamaged

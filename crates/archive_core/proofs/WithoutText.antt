@@ -7,7 +7,7 @@ use Rattle.std.proofs.lemmas.Option.{slice_get_within, slice_get-get_or, same_So
 use Rattle.std.proofs.lemmas.Slice.Eq.{bytes_eq-Decides}
 use Rattle.arch_base.specs.declared.config.Config.{Config}
 use Rattle.arch_base.specs.declared.ids.ObjectId.{ObjectId}
-use Rattle.arch_base.specs.declared.ids.Form.TheVariants as form
+use Rattle.arch_base.specs.declared.ids.Form.{Form}
 use Rattle.arch_base.specs.Ids.{id_eq}
 use Rattle.arch_base.proofs.IdOrder.{id_eq-Decides}
 use Rattle.mail_commits.specs.declared.ids.TextIds.{TextIds}
@@ -50,16 +50,16 @@ use Rattle.archive_core.proofs.Dropping.{first-stays, first-goes}
 use Rattle.archive_core.proofs.Indexes.{in-order}
 use Rattle.archive_core.proofs.Removing.{all_at}
 
--- Each of some entries with the blob id of a text has that text.
-abbrev pub AgreesWith : List ℕ → List Entry → Type 0
-AgreesWith text es = AllByRecursion (λ (e : Entry). blob_id_of form.Sha1 e.text ≡ blob_id_of form.Sha1 text → e.text ≡ text) es
+-- Each of some entries with the blob id of a text, in a form, has that text.
+abbrev pub AgreesWith : Form → List ℕ → List Entry → Type 0
+AgreesWith form text es = AllByRecursion (λ (e : Entry). blob_id_of form e.text ≡ blob_id_of form text → e.text ≡ text) es
 
 -- So it is of a text that one of them has.
-pub texts-agree : (es : List Entry) (text : List ℕ) → BlobsAgree es → HasText text es → AgreesWith text es
-texts-agree [] text agree has = tt
-texts-agree (e ∷ es) text agree (inl is) = (λ same. is, subst (λ (t : List ℕ). AgreesWith t es) is agree.0)
-texts-agree (e ∷ es) text agree (inr more) =
-    (λ same. sym (all-text (λ (t : List ℕ). blob_id_of form.Sha1 t ≡ blob_id_of form.Sha1 e.text → t ≡ e.text) es text agree.0 more (sym same)), texts-agree es text agree.1 more)
+pub texts-agree : (form : Form) (es : List Entry) (text : List ℕ) → BlobsAgree form es → HasText text es → AgreesWith form text es
+texts-agree form [] text agree has = tt
+texts-agree form (e ∷ es) text agree (inl is) = (λ same. is, subst (λ (t : List ℕ). AgreesWith form t es) is agree.0)
+texts-agree form (e ∷ es) text agree (inr more) =
+    (λ same. sym (all-text (λ (t : List ℕ). blob_id_of form t ≡ blob_id_of form e.text → t ≡ e.text) es text agree.0 more (sym same)), texts-agree form es text agree.1 more)
 
 messages_step : (k : EntryKind) (e : Entry) (es ms : List Entry) (text : List ℕ) → (HasText text ms → HasText text es) → HasText text (if is_message k then e ∷ ms else ms) → HasText text (e ∷ es)
 messages_step Message e es ms text rest (inl is) = inl is
@@ -70,26 +70,26 @@ messages_have : (es : List Entry) (text : List ℕ) → HasText text (messages e
 messages_have [] text has = has
 messages_have (e ∷ es) text has = messages_step e.kind e es (messages es) text (messages_have es text) has
 
-pub message-agrees : (a : Archive) (n : ℕ) (text : List ℕ) → IsArchive a → text_of (messages a.entries) n ≡ Some text → AgreesWith text a.entries
-message-agrees a n text valid is = texts-agree a.entries text valid.blobs (messages_have a.entries text (found-has (messages a.entries) n text is))
+pub message-agrees : (a : Archive) (n : ℕ) (text : List ℕ) → IsArchive a → text_of (messages a.entries) n ≡ Some text → AgreesWith a.config.form text a.entries
+message-agrees a n text valid is = texts-agree a.config.form a.entries text valid.blobs (messages_have a.entries text (found-has (messages a.entries) n text is))
 
 pub live-message-is : (a : Archive) (n : ℕ) (text : List ℕ) → IsArchive a → text_of (live a.entries) n ≡ Some text → text_of (messages a.entries) n ≡ Some text
 live-message-is a n text valid shown = (live-one 1 0 a.entries n text valid.order shown).is
 
 -- Then the test of blob ids is the test of texts.
-tests_same : (text other : List ℕ) → (blob_id_of form.Sha1 other ≡ blob_id_of form.Sha1 text → other ≡ text) → id_eq (blob_id_of form.Sha1 text) (blob_id_of form.Sha1 other) ≡ bytes_eq text other
-tests_same text other agree = by (id_eq (blob_id_of form.Sha1 text) (blob_id_of form.Sha1 other)) (bytes_eq text other) refl refl where
-  by : (t u : Bool) → id_eq (blob_id_of form.Sha1 text) (blob_id_of form.Sha1 other) ≡ t → bytes_eq text other ≡ u → t ≡ u
+tests_same : (form : Form) (text other : List ℕ) → (blob_id_of form other ≡ blob_id_of form text → other ≡ text) → id_eq (blob_id_of form text) (blob_id_of form other) ≡ bytes_eq text other
+tests_same form text other agree = by (id_eq (blob_id_of form text) (blob_id_of form other)) (bytes_eq text other) refl refl where
+  by : (t u : Bool) → id_eq (blob_id_of form text) (blob_id_of form other) ≡ t → bytes_eq text other ≡ u → t ≡ u
   by true true a b = refl
   by false false a b = refl
   by true false a b =
-      absurd (let ids : blob_id_of form.Sha1 text ≡ blob_id_of form.Sha1 other = (id_eq-Decides (blob_id_of form.Sha1 text) (blob_id_of form.Sha1 other)).0 a in
+      absurd (let ids : blob_id_of form text ≡ blob_id_of form other = (id_eq-Decides (blob_id_of form text) (blob_id_of form other)).0 a in
       let same : other ≡ text = agree (sym ids) in
       let hit : bytes_eq text other ≡ true = (bytes_eq-Decides text other).1 (sym same) in
       let wrong : true ≡ false = sym hit ∙ b in cc)
   by false true a b =
       absurd (let same : text ≡ other = (bytes_eq-Decides text other).0 b in
-      let hit : id_eq (blob_id_of form.Sha1 text) (blob_id_of form.Sha1 other) ≡ true = (id_eq-Decides (blob_id_of form.Sha1 text) (blob_id_of form.Sha1 other)).1 (ap (blob_id_of form.Sha1) same) in
+      let hit : id_eq (blob_id_of form text) (blob_id_of form other) ≡ true = (id_eq-Decides (blob_id_of form text) (blob_id_of form other)).1 (ap (blob_id_of form) same) in
       let wrong : true ≡ false = sym hit ∙ a in cc)
 
 -- The front entry stays, or it goes.
@@ -101,36 +101,36 @@ text-goes text e es same = ap (λ (t : Bool). if not t then e ∷ without_text e
 
 -- What is kept of the entries without a text is what is kept without its blob id, but for places and
 -- commits.
-pub stored-without : (before rest es : List Entry) (text : List ℕ) → AgreesWith text es → AllZip KeptOf (without_blob (stored_after before es) (blob_id_of form.Sha1 text)) (stored_after rest (without_text es text))
-stored-without before rest [] text agree = tt
-stored-without before rest (e ∷ es) text agree = by (bytes_eq text e.text) refl (stored-without (before ++ e ∷ []) rest es text agree.1) (stored-without (before ++ e ∷ []) (rest ++ e ∷ []) es text agree.1) where
+pub stored-without : (form : Form) (before rest es : List Entry) (text : List ℕ) → AgreesWith form text es → AllZip KeptOf (without_blob (stored_after form before es) (blob_id_of form text)) (stored_after form rest (without_text es text))
+stored-without form before rest [] text agree = tt
+stored-without form before rest (e ∷ es) text agree = by (bytes_eq text e.text) refl (stored-without form (before ++ e ∷ []) rest es text agree.1) (stored-without form (before ++ e ∷ []) (rest ++ e ∷ []) es text agree.1) where
   blob : ObjectId
-  blob = blob_id_of form.Sha1 text
+  blob = blob_id_of form text
 
   more : List StoredEntry
-  more = stored_after (before ++ e ∷ []) es
+  more = stored_after form (before ++ e ∷ []) es
 
-  by : (t : Bool) → bytes_eq text e.text ≡ t → AllZip KeptOf (without_blob (stored_after (before ++ e ∷ []) es) (blob_id_of form.Sha1 text)) (stored_after rest (without_text es text))
-      → AllZip KeptOf (without_blob (stored_after (before ++ e ∷ []) es) (blob_id_of form.Sha1 text)) (stored_after (rest ++ e ∷ []) (without_text es text))
-      → AllZip KeptOf (without_blob (stored_after before (e ∷ es)) (blob_id_of form.Sha1 text)) (stored_after rest (without_text (e ∷ es) text))
+  by : (t : Bool) → bytes_eq text e.text ≡ t → AllZip KeptOf (without_blob (stored_after form (before ++ e ∷ []) es) (blob_id_of form text)) (stored_after form rest (without_text es text))
+      → AllZip KeptOf (without_blob (stored_after form (before ++ e ∷ []) es) (blob_id_of form text)) (stored_after form (rest ++ e ∷ []) (without_text es text))
+      → AllZip KeptOf (without_blob (stored_after form before (e ∷ es)) (blob_id_of form text)) (stored_after form rest (without_text (e ∷ es) text))
   by true same gone stays =
-      subst (λ (l : List StoredEntry). AllZip KeptOf l (stored_after rest (without_text (e ∷ es) text))) (sym (first-goes blob (stored_at before e) more (tests_same text e.text agree.0 ∙ same)))
-      (subst (λ (l : List Entry). AllZip KeptOf (without_blob more blob) (stored_after rest l)) (sym (text-goes text e es same)) gone)
+      subst (λ (l : List StoredEntry). AllZip KeptOf l (stored_after form rest (without_text (e ∷ es) text))) (sym (first-goes blob (stored_at form before e) more (tests_same form text e.text agree.0 ∙ same)))
+      (subst (λ (l : List Entry). AllZip KeptOf (without_blob more blob) (stored_after form rest l)) (sym (text-goes text e es same)) gone)
   by false other gone stays =
-      subst (λ (l : List StoredEntry). AllZip KeptOf l (stored_after rest (without_text (e ∷ es) text))) (sym (first-stays blob (stored_at before e) more (tests_same text e.text agree.0 ∙ other)))
-      (subst (λ (l : List Entry). AllZip KeptOf (stored_at before e ∷ without_blob more blob) (stored_after rest l)) (sym (text-stays text e es other))
+      subst (λ (l : List StoredEntry). AllZip KeptOf l (stored_after form rest (without_text (e ∷ es) text))) (sym (first-stays blob (stored_at form before e) more (tests_same form text e.text agree.0 ∙ other)))
+      (subst (λ (l : List Entry). AllZip KeptOf (stored_at form before e ∷ without_blob more blob) (stored_after form rest l)) (sym (text-stays text e es other))
       (record { number = refl; epoch = refl; kind = refl; size = refl; blob = refl; moment = refl; id = refl; content = refl }, stays))
 
 -- The index of what is kept without a blob id is that of the archive without the text.
-pub index-without : (v : StoreState) (a : Archive) (index : Index) (blob : ObjectId) (text : List ℕ) → KeepsArchive v a → AgreesWith text a.entries → blob_id_of form.Sha1 text ≡ blob → IndexesKept (without_blob v.entries blob) index → IsArchiveIndex (without_entries a text).entries index
+pub index-without : (v : StoreState) (a : Archive) (index : Index) (blob : ObjectId) (text : List ℕ) → KeepsArchive v a → AgreesWith a.config.form text a.entries → blob_id_of a.config.form text ≡ blob → IndexesKept (without_blob v.entries blob) index → IsArchiveIndex a.config.form (without_entries a text).entries index
 index-without v a index blob text keeps agree blob_is indexed =
-    indexed (stored_after [] (without_text a.entries text))
-    (subst (λ (i : ObjectId). AllZip KeptOf (without_blob v.entries i) (stored_after [] (without_text a.entries text))) blob_is
-    (subst (λ (l : List StoredEntry). AllZip KeptOf (without_blob l (blob_id_of form.Sha1 text)) (stored_after [] (without_text a.entries text))) (sym keeps.kept) (stored-without [] [] a.entries text agree)))
-    (without_text a.entries text) (record { ordered = in-order (without_entries a text) (valid_without a text keeps.valid); is = refl })
+    indexed (stored_after a.config.form [] (without_text a.entries text))
+    (subst (λ (i : ObjectId). AllZip KeptOf (without_blob v.entries i) (stored_after a.config.form [] (without_text a.entries text))) blob_is
+    (subst (λ (l : List StoredEntry). AllZip KeptOf (without_blob l (blob_id_of a.config.form text)) (stored_after a.config.form [] (without_text a.entries text))) (sym keeps.kept) (stored-without a.config.form [] [] a.entries text agree)))
+    a.config.form (without_text a.entries text) (record { ordered = in-order (without_entries a text) (valid_without a text keeps.valid); is = refl })
 
 -- The blob id of a message that may be purged is that of its text.
-pub purge-blob : (v : StoreState) (a : Archive) (n : ℕ) (blob : ObjectId) (text : List ℕ) → KeepsArchive v a → MayPurge v n blob → text_of (messages a.entries) n ≡ Some text → blob_id_of form.Sha1 text ≡ blob
+pub purge-blob : (v : StoreState) (a : Archive) (n : ℕ) (blob : ObjectId) (text : List ℕ) → KeepsArchive v a → MayPurge v n blob → text_of (messages a.entries) n ≡ Some text → blob_id_of a.config.form text ≡ blob
 purge-blob v a n blob text keeps may is =
     let at : IsMessageAt v.entries n may.is_there.0 = record {
       entry = may.entry;
@@ -139,20 +139,20 @@ purge-blob v a n blob text keeps may is =
       is_one = ap is_message may.kind;
     } in
     let own = message-of v a n may.is_there.0 keeps at in
-    ap (blob_id_of form.Sha1) (same_Some text own.entry.text (sym is ∙ own.once)) ∙ sym own.blob ∙ may.blob_is
+    ap (blob_id_of a.config.form) (same_Some text own.entry.text (sym is ∙ own.once)) ∙ sym own.blob ∙ may.blob_is
   where
     get_is : (es : List StoredEntry) (i : ℕ) (e : StoredEntry) → i < length es → slice_index_or es i e ≡ e → get_or es i e ≡ e
     get_is es i e less is = is
 
 -- The live number whose entry has the blob id of a text is the one with the text.
-pub lost-live : (v : StoreState) (a : Archive) (places : List MessagePlace) (lost : Option ℕ) (blob : ObjectId) (text : List ℕ) → KeepsArchive v a → places ≡ message_places 0 v.entries → AgreesWith text a.entries → blob_id_of form.Sha1 text ≡ blob → IsLiveWith places v.entries blob lost → IsLiveOf (live a.entries) text lost
+pub lost-live : (v : StoreState) (a : Archive) (places : List MessagePlace) (lost : Option ℕ) (blob : ObjectId) (text : List ℕ) → KeepsArchive v a → places ≡ message_places 0 v.entries → AgreesWith a.config.form text a.entries → blob_id_of a.config.form text ≡ blob → IsLiveWith places v.entries blob lost → IsLiveOf (live a.entries) text lost
 lost-live v a places (Some n) blob text keeps placed agree blob_is found =
     let at : IsLiveAt v.entries n found.1.entry = live-found v places placed found.0 n found.1 found.2 found.3 found.4 in
     let own = message-of v a n found.1.entry keeps at.message in
     let hit : id_eq blob at.message.entry.seen.blob ≡ true = sym (ap (λ (o : Option StoredEntry). found_blob o blob) at.message.there) ∙ found.5 in
     let ids : blob ≡ at.message.entry.seen.blob = (id_eq-Decides blob at.message.entry.seen.blob).0 hit in
-    let same : blob_id_of form.Sha1 own.entry.text ≡ blob_id_of form.Sha1 text = sym own.blob ∙ sym ids ∙ sym blob_is in
-    let is : own.entry.text ≡ text = all_at (λ (e : Entry). blob_id_of form.Sha1 e.text ≡ blob_id_of form.Sha1 text → e.text ≡ text) a.entries found.1.entry own.entry agree own.there same in
+    let same : blob_id_of a.config.form own.entry.text ≡ blob_id_of a.config.form text = sym own.blob ∙ sym ids ∙ sym blob_is in
+    let is : own.entry.text ≡ text = all_at (λ (e : Entry). blob_id_of a.config.form e.text ≡ blob_id_of a.config.form text → e.text ≡ text) a.entries found.1.entry own.entry agree own.there same in
     entry-text v a keeps n found.1.entry at own.entry.text (ap text_if own.there) ∙ ap Some is
 lost-live v a places None blob text keeps placed agree blob_is none = λ n shown.
     let is_live = live-at places n (live-shown v places placed a keeps n ∙ ap is_some shown) in
@@ -160,7 +160,7 @@ lost-live v a places None blob text keeps placed agree blob_is none = λ n shown
     let own = message-of v a n is_live.place.entry keeps at.message in
     let read : text_of (live a.entries) n ≡ Some own.entry.text = entry-text v a keeps n is_live.place.entry at own.entry.text (ap text_if own.there) in
     let same : own.entry.text ≡ text = same_Some own.entry.text text (sym read ∙ shown) in
-    let ids : blob ≡ at.message.entry.seen.blob = sym blob_is ∙ ap (blob_id_of form.Sha1) (sym same) ∙ sym own.blob in
+    let ids : blob ≡ at.message.entry.seen.blob = sym blob_is ∙ ap (blob_id_of a.config.form) (sym same) ∙ sym own.blob in
     let hit : has_blob_at v.entries is_live.place.entry blob ≡ true = ap (λ (o : Option StoredEntry). found_blob o blob) at.message.there ∙ (id_eq-Decides blob at.message.entry.seen.blob).1 ids in
     let wrong : true ≡ false = sym hit ∙ none is_live.index is_live.place is_live.there is_live.live_is in
     cc
@@ -171,7 +171,7 @@ purged_by a n found writable is =
     ap (λ (t : Bool). if t then refused a answer.IsMirror else purged_text a n (text_of (messages a.entries) n)) writable
     ∙ ap (purged_text a n) is
 
-pub purged-text-is : (a : Archive) (n : ℕ) (text : List ℕ) → a.config.mirror ≡ false → text_of (messages a.entries) n ≡ Some text → purged a n ≡ record { archive = without_entries a text; answer = answer.Ok n (blob_id_of form.Sha1 text) }
+pub purged-text-is : (a : Archive) (n : ℕ) (text : List ℕ) → a.config.mirror ≡ false → text_of (messages a.entries) n ≡ Some text → purged a n ≡ record { archive = without_entries a text; answer = answer.Ok n (blob_id_of a.config.form text) }
 purged-text-is a n text writable is = purged_by a n (Some text) writable is
 
 -- What was done on another archive, and accepted, is what is done.
@@ -230,7 +230,7 @@ left-done v cache left a d k (answer.Damaged file at) store never fine is = absu
 left-done v cache left a d k other store never fine is = record { answer_is = ap (λ (x : Done). x.answer) is; store = subst (λ (b : Archive). IsStoreWith v cache b k) (sym (ap (λ (x : Done). x.archive) is)) store }
 
 -- What an index of the archive with all its entries, or without a text, knows of it.
-pub known-left : (v : StoreState) (a : Archive) (config : Config) (index : Index) (next : ℕ) (gone : Option (List ℕ)) → KeepsArchive v a → config ≡ v.root.config → next ≡ v.root.next → IsArchiveIndex (left_without a gone).entries index → IsKnownBy config index next (left_without a gone)
+pub known-left : (v : StoreState) (a : Archive) (config : Config) (index : Index) (next : ℕ) (gone : Option (List ℕ)) → KeepsArchive v a → config ≡ v.root.config → next ≡ v.root.next → IsArchiveIndex a.config.form (left_without a gone).entries index → IsKnownBy config index next (left_without a gone)
 known-left v a config index next None keeps config_is next_is indexed = record {
   config_is = sym (config_is ∙ keeps.names.config);
   next_is = sym (next_is ∙ keeps.names.next);
@@ -243,59 +243,60 @@ known-left v a config index next (Some text) keeps config_is next_is indexed = r
 }
 
 -- No entry has the blob id of a text without which all with that blob id are gone.
-none_left : (es : List Entry) (text : List ℕ) (blob : ObjectId) → blob ≡ blob_id_of form.Sha1 text → AgreesWith text es → blob_number (without_text es text) blob ≡ None
-none_left [] text blob is agree = refl
-none_left (e ∷ es) text blob is agree = by (bytes_eq text e.text) refl (none_left es text blob is agree.1) where
-  by : (t : Bool) → bytes_eq text e.text ≡ t → blob_number (without_text es text) blob ≡ None → blob_number (without_text (e ∷ es) text) blob ≡ None
-  by true same rest = ap (λ (l : List Entry). blob_number l blob) (text-goes text e es same) ∙ rest
+none_left : (form : Form) (es : List Entry) (text : List ℕ) (blob : ObjectId) → blob ≡ blob_id_of form text → AgreesWith form text es → blob_number form (without_text es text) blob ≡ None
+none_left form [] text blob is agree = refl
+none_left form (e ∷ es) text blob is agree = by (bytes_eq text e.text) refl (none_left form es text blob is agree.1) where
+  by : (t : Bool) → bytes_eq text e.text ≡ t → blob_number form (without_text es text) blob ≡ None → blob_number form (without_text (e ∷ es) text) blob ≡ None
+  by true same rest = ap (λ (l : List Entry). blob_number form l blob) (text-goes text e es same) ∙ rest
   by false other rest =
-      let miss : id_eq blob (blob_id_of form.Sha1 e.text) ≡ false = ap (λ (b : ObjectId). id_eq b (blob_id_of form.Sha1 e.text)) is ∙ tests_same text e.text agree.0 ∙ other in
-      ap (λ (l : List Entry). blob_number l blob) (text-stays text e es other)
-      ∙ ap (λ (t : Bool). if t then Some e.number else blob_number (without_text es text) blob) miss
+      let miss : id_eq blob (blob_id_of form e.text) ≡ false = ap (λ (b : ObjectId). id_eq b (blob_id_of form e.text)) is ∙ tests_same form text e.text agree.0 ∙ other in
+      ap (λ (l : List Entry). blob_number form l blob) (text-stays text e es other)
+      ∙ ap (λ (t : Bool). if t then Some e.number else blob_number form (without_text es text) blob) miss
       ∙ rest
 
 -- A number that has a blob id first without a text had it first before, with the same text.
-abbrev pub StaysFirst : List Entry → List ℕ → ObjectId → ℕ → Type 0
-StaysFirst es text blob n = (blob_number es blob ≡ Some n) × (blob_text es blob ≡ blob_text (without_text es text) blob)
+abbrev pub StaysFirst : Form → List Entry → List ℕ → ObjectId → ℕ → Type 0
+StaysFirst form es text blob n = (blob_number form es blob ≡ Some n) × (blob_text form es blob ≡ blob_text form (without_text es text) blob)
 
-first_still : (es : List Entry) (text : List ℕ) (blob : ObjectId) (n : ℕ) → BlobsAgree es → blob_number (without_text es text) blob ≡ Some n → StaysFirst es text blob n
-first_still [] text blob n agree is = absurd (cc)
-first_still (e ∷ es) text blob n agree is = by (bytes_eq text e.text) (id_eq blob (blob_id_of form.Sha1 e.text)) refl refl (first_still es text blob n agree.1) where
-  by : (t u : Bool) → bytes_eq text e.text ≡ t → id_eq blob (blob_id_of form.Sha1 e.text) ≡ u → (blob_number (without_text es text) blob ≡ Some n → StaysFirst es text blob n) → StaysFirst (e ∷ es) text blob n
+first_still : (form : Form) (es : List Entry) (text : List ℕ) (blob : ObjectId) (n : ℕ) → BlobsAgree form es → blob_number form (without_text es text) blob ≡ Some n → StaysFirst form es text blob n
+first_still form [] text blob n agree is = absurd (cc)
+first_still form (e ∷ es) text blob n agree is = by (bytes_eq text e.text) (id_eq blob (blob_id_of form e.text)) refl refl (first_still form es text blob n agree.1) where
+  by : (t u : Bool) → bytes_eq text e.text ≡ t → id_eq blob (blob_id_of form e.text) ≡ u → (blob_number form (without_text es text) blob ≡ Some n → StaysFirst form es text blob n) → StaysFirst form (e ∷ es) text blob n
   by true true same hit rest =
       let is_text : text ≡ e.text = (bytes_eq-Decides text e.text).0 same in
-      let its : blob ≡ blob_id_of form.Sha1 text = (id_eq-Decides blob (blob_id_of form.Sha1 e.text)).0 hit ∙ ap (blob_id_of form.Sha1) (sym is_text) in
-      let none : blob_number (without_text es text) blob ≡ None = none_left es text blob its (subst (λ (t : List ℕ). AgreesWith t es) (sym is_text) agree.0) in
-      let found : blob_number (without_text es text) blob ≡ Some n = sym (ap (λ (l : List Entry). blob_number l blob) (text-goes text e es same)) ∙ is in
+      let its : blob ≡ blob_id_of form text = (id_eq-Decides blob (blob_id_of form e.text)).0 hit ∙ ap (blob_id_of form) (sym is_text) in
+      let none : blob_number form (without_text es text) blob ≡ None = none_left form es text blob its (subst (λ (t : List ℕ). AgreesWith form t es) (sym is_text) agree.0) in
+      let found : blob_number form (without_text es text) blob ≡ Some n = sym (ap (λ (l : List Entry). blob_number form l blob) (text-goes text e es same)) ∙ is in
       absurd (let wrong : None ≡ Some n = sym none ∙ found in cc)
   by true false same miss rest =
-      let both = rest (sym (ap (λ (l : List Entry). blob_number l blob) (text-goes text e es same)) ∙ is) in (
-        ap (λ (t : Bool). if t then Some e.number else blob_number es blob) miss ∙ both.0,
-        ap (λ (t : Bool). if t then Some e.text else blob_text es blob) miss ∙ both.1 ∙ sym (ap (λ (l : List Entry). blob_text l blob) (text-goes text e es same)),
+      let both = rest (sym (ap (λ (l : List Entry). blob_number form l blob) (text-goes text e es same)) ∙ is) in (
+        ap (λ (t : Bool). if t then Some e.number else blob_number form es blob) miss ∙ both.0,
+        ap (λ (t : Bool). if t then Some e.text else blob_text form es blob) miss ∙ both.1 ∙ sym (ap (λ (l : List Entry). blob_text form l blob) (text-goes text e es same)),
       )
   by false true other hit rest =
-      let found : blob_number (e ∷ without_text es text) blob ≡ Some n = sym (ap (λ (l : List Entry). blob_number l blob) (text-stays text e es other)) ∙ is in (
-        ap (λ (t : Bool). if t then Some e.number else blob_number es blob) hit ∙ sym (ap (λ (t : Bool). if t then Some e.number else blob_number (without_text es text) blob) hit) ∙ found,
-        ap (λ (t : Bool). if t then Some e.text else blob_text es blob) hit
-            ∙ sym (ap (λ (t : Bool). if t then Some e.text else blob_text (without_text es text) blob) hit)
-            ∙ sym (ap (λ (l : List Entry). blob_text l blob) (text-stays text e es other)),
+      let found : blob_number form (e ∷ without_text es text) blob ≡ Some n = sym (ap (λ (l : List Entry). blob_number form l blob) (text-stays text e es other)) ∙ is in (
+        ap (λ (t : Bool). if t then Some e.number else blob_number form es blob) hit ∙ sym (ap (λ (t : Bool). if t then Some e.number else blob_number form (without_text es text) blob) hit) ∙ found,
+        ap (λ (t : Bool). if t then Some e.text else blob_text form es blob) hit
+            ∙ sym (ap (λ (t : Bool). if t then Some e.text else blob_text form (without_text es text) blob) hit)
+            ∙ sym (ap (λ (l : List Entry). blob_text form l blob) (text-stays text e es other)),
       )
   by false false other miss rest =
-      let found : blob_number (e ∷ without_text es text) blob ≡ Some n = sym (ap (λ (l : List Entry). blob_number l blob) (text-stays text e es other)) ∙ is in
-      let both = rest (sym (ap (λ (t : Bool). if t then Some e.number else blob_number (without_text es text) blob) miss) ∙ found) in (
-        ap (λ (t : Bool). if t then Some e.number else blob_number es blob) miss ∙ both.0,
-        ap (λ (t : Bool). if t then Some e.text else blob_text es blob) miss
+      let found : blob_number form (e ∷ without_text es text) blob ≡ Some n = sym (ap (λ (l : List Entry). blob_number form l blob) (text-stays text e es other)) ∙ is in
+      let both = rest (sym (ap (λ (t : Bool). if t then Some e.number else blob_number form (without_text es text) blob) miss) ∙ found) in (
+        ap (λ (t : Bool). if t then Some e.number else blob_number form es blob) miss ∙ both.0,
+        ap (λ (t : Bool). if t then Some e.text else blob_text form es blob) miss
             ∙ both.1
-            ∙ sym (ap (λ (t : Bool). if t then Some e.text else blob_text (without_text es text) blob) miss)
-            ∙ sym (ap (λ (l : List Entry). blob_text l blob) (text-stays text e es other)),
+            ∙ sym (ap (λ (t : Bool). if t then Some e.text else blob_text form (without_text es text) blob) miss)
+            ∙ sym (ap (λ (l : List Entry). blob_text form l blob) (text-stays text e es other)),
       )
 
 -- So the text that is read of it is the same.
-pub reads-left : (a : Archive) (gone : Option (List ℕ)) (number : ℕ) (kept : List ℕ) → BlobsAgree a.entries → ReadsMessage a number (Ok kept) → ReadsMessage (left_without a gone) number (Ok kept)
+pub reads-left : (a : Archive) (gone : Option (List ℕ)) (number : ℕ) (kept : List ℕ) → BlobsAgree a.config.form a.entries → ReadsMessage a number (Ok kept) → ReadsMessage (left_without a gone) number (Ok kept)
 reads-left a None number kept agree reads = reads
-reads-left a (Some text) number kept agree reads = λ blob first. (let both = first_still a.entries text blob number agree first in sym both.1 ∙ reads blob both.0)
+reads-left a (Some text) number kept agree reads = λ blob first. (let both = first_still a.config.form a.entries text blob number agree first in sym both.1 ∙ reads blob both.0)
 
--- Its settings and its next number are the same, and its blob ids agree.
+-- Its settings and its next number are the same, an index has its entries in its form, and its blob ids
+-- agree.
 pub left-config : (a : Archive) (gone : Option (List ℕ)) → (left_without a gone).config ≡ a.config
 left-config a None = refl
 left-config a (Some text) = refl
@@ -304,7 +305,11 @@ pub left-next : (a : Archive) (gone : Option (List ℕ)) → (left_without a gon
 left-next a None = refl
 left-next a (Some text) = refl
 
-pub left-agree : (a : Archive) (gone : Option (List ℕ)) → IsArchive a → BlobsAgree (left_without a gone).entries
+pub left-indexed : (a : Archive) (gone : Option (List ℕ)) (index : Index) → IsArchiveIndex a.config.form (left_without a gone).entries index → IsArchiveIndex (left_without a gone).config.form (left_without a gone).entries index
+left-indexed a None index indexed = indexed
+left-indexed a (Some text) index indexed = indexed
+
+pub left-agree : (a : Archive) (gone : Option (List ℕ)) → IsArchive a → BlobsAgree (left_without a gone).config.form (left_without a gone).entries
 left-agree a None valid = valid.blobs
 left-agree a (Some text) valid = (valid_without a text valid).blobs
 
@@ -323,7 +328,7 @@ may-replace v index old ids n number text purge indexed kept = record {
     id = λ a m gone keeps is blob_is. (
         let id = unwrap_or (own_id text) [] in
         let own = id_of (own_id text) kept.comes.storage.id in
-        let is_index : IsArchiveIndex (without_entries a gone).entries index = index-without v a index old gone keeps (message-agrees a m gone keeps.valid is) blob_is indexed in
+        let is_index : IsArchiveIndex a.config.form (without_entries a gone).entries index = index-without v a index old gone keeps (message-agrees a m gone keeps.valid is) blob_is indexed in
         (id, own, unowned (without_text a.entries gone) index id is_index (kept.comes.new_id id own)));
   };
   ids_are = kept.comes.ids_are;
@@ -349,7 +354,7 @@ pub writable-of : (v : StoreState) (a : Archive) → KeepsArchive v a → v.root
 writable-of v a keeps writable = ap (λ (c : Config). c.mirror) (sym keeps.names.config) ∙ writable
 
 -- The text of the message at an index, by its number and its blob id.
-pub purge-at : (v : StoreState) (a : Archive) (n i : ℕ) (s : StoredEntry) → KeepsArchive v a → IsMessageAt v.entries n i → slice_get v.entries i ≡ Some s → (text : List ℕ) × (text_of (messages a.entries) n ≡ Some text) × (blob_id_of form.Sha1 text ≡ s.seen.blob)
+pub purge-at : (v : StoreState) (a : Archive) (n i : ℕ) (s : StoredEntry) → KeepsArchive v a → IsMessageAt v.entries n i → slice_get v.entries i ≡ Some s → (text : List ℕ) × (text_of (messages a.entries) n ≡ Some text) × (blob_id_of a.config.form text ≡ s.seen.blob)
 purge-at v a n i s keeps at there =
     let own = message-of v a n i keeps at in
     let same : at.entry ≡ s = (let both : Some at.entry ≡ Some s = sym at.there ∙ there in cc) in

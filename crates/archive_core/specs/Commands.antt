@@ -2,7 +2,7 @@
 use Rattle.std.specs.Prelude.{◌≡◌, ◌+◌, ◌-◌, ◌<◌, ◌^◌, ℕ, Bool, true, false, List, slice_get, Option, Some, None, Result, Ok, Err}
 use Rattle.std.specs.List.{Contains}
 use Rattle.arch_base.specs.Counts.{RoseIf}
-use Rattle.arch_base.specs.declared.ids.Form.TheVariants as form
+use Rattle.arch_base.specs.declared.ids.Form.{Form}
 use Rattle.arch_base.specs.declared.ids.ObjectId.{ObjectId}
 use Rattle.disk_model.specs.declared.disk.Disk.{Ghosts as Disk}
 use Rattle.disk_model.specs.Disk.{Content, WhereTold, BothTold, Unchanged, Image}
@@ -209,8 +209,9 @@ IsTextAt entries index text = (e : StoredEntry) → slice_get entries index ≡ 
 -- The result of reading the text of the message with a number: it is that of each blob id of which the
 -- message is the first entry. On the disk of an archive nothing is damaged.
 abbrev pub ReadsMessage : Archive → ℕ → Result (List ℕ) Answer → Type 0
-ReadsMessage a number (Ok text) = (blob : ObjectId) → blob_number a.entries blob ≡ Some number
-    → blob_text a.entries blob ≡ Some text
+ReadsMessage a number (Ok text) = (blob : ObjectId)
+    → blob_number a.config.form a.entries blob ≡ Some number
+    → blob_text a.config.form a.entries blob ≡ Some text
 ReadsMessage a number (Err answer.DiskFault) = Unit {0}
 ReadsMessage a number (Err answer.NoMemory) = Unit {0}
 ReadsMessage a number (Err other) = ⊥
@@ -234,7 +235,7 @@ JudgesRead a bytes verdict = Judges a bytes verdict
 
 -- No other text has the blob id of a text that is taken.
 abbrev pub IsAlone : Archive → Verdict → Type 0
-IsAlone a (Take text ids number) = collision a.entries text ≡ None
+IsAlone a (Take text ids number) = collision a.config.form a.entries text ≡ None
 IsAlone a (Refuse reply) = Unit {0}
 
 -- An archive with all its entries, or without those of a text.
@@ -247,7 +248,8 @@ left_without a (Some text) = without_entries a text
 abbrev pub JudgesOn : {D : Type 0} → (D → Option Content) → D → StoreState → Index → List ℕ → Verdict
     → Type 0
 JudgesOn content disk v index bytes verdict = (a : Archive) (cache : List ℕ) (gone : Option (List ℕ))
-    → IsStoreWith v cache a (content disk) → IsArchiveIndex (left_without a gone).entries index
+    → IsStoreWith v cache a (content disk)
+    → IsArchiveIndex a.config.form (left_without a gone).entries index
     → JudgesRead (left_without a gone) bytes verdict × IsAlone (left_without a gone) verdict
 
 -- The disk was read, and nothing else: its content is the same, and a crash leaves what it might have
@@ -310,12 +312,12 @@ abbrev pub IfRemoval : Bool → Type 0 → Type 0
 IfRemoval true P = Unit {0}
 IfRemoval false P = P
 
--- The text of a delivery that was accepted is a storage text, and the answer has its blob id. Its
--- content id comes with it.
-abbrev pub TellsText : Answer → KeptText → Type 0
-TellsText (answer.Ok number id) kept = IsStorageText kept.text × (id ≡ blob_id_of form.Sha1 kept.text)
+-- The text of a delivery that was accepted is a storage text, and the answer has its blob id of a form.
+-- Its content id comes with it.
+abbrev pub TellsText : Form → Answer → KeptText → Type 0
+TellsText form (answer.Ok number id) kept = IsStorageText kept.text × (id ≡ blob_id_of form kept.text)
     × (kept.content ≡ content_id_of kept.text)
-TellsText other kept = Unit {0}
+TellsText form other kept = Unit {0}
 
 -- An accepted delivery kept this text, as the last message after the archive before.
 abbrev pub KeepsText : Archive → Done → ℕ → List ℕ → Type 0

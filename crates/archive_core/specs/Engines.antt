@@ -49,7 +49,7 @@ needs_opening other = false
 -- the archive's live messages, and all that reads give is on the disk.
 abbrev pub HoldsArchive : {D : Type 0} → (D → Option Content) → Owning D → Archive → Type 0
 HoldsArchive content e a = (cache : List ℕ) × IsStoreWith e.view cache a (content e.disk)
-    × (e.views ≡ views_of (live a.entries)) × WhereTold IsSettled (content e.disk)
+    × (e.views ≡ views_of a.config.form (live a.entries)) × WhereTold IsSettled (content e.disk)
 
 -- A disk has exactly the files of an archive, with whatever cache, by the current root, and all that
 -- reads give is on the disk.
@@ -113,11 +113,12 @@ Leaves g start e may = (g.moment start.disk ≤ g.moment e.disk)
 -- the engine has to be reopened after `Ok`. Out of memory they are those of the archive before it. After
 -- a fault, or damage, nothing is said of them.
 abbrev pub ViewsKeepUp : Answer → Bool → Viewed → Archive → Archive → Type 0
-ViewsKeepUp (answer.Ok number id) ready views a b = ready ≡ true → views ≡ views_of (live b.entries)
-ViewsKeepUp answer.NoMemory ready views a b = views ≡ views_of (live a.entries)
+ViewsKeepUp (answer.Ok number id) ready views a b =
+    ready ≡ true → views ≡ views_of b.config.form (live b.entries)
+ViewsKeepUp answer.NoMemory ready views a b = views ≡ views_of a.config.form (live a.entries)
 ViewsKeepUp answer.DiskFault ready views a b = Unit {0}
 ViewsKeepUp (answer.Damaged file at) ready views a b = Unit {0}
-ViewsKeepUp other ready views a b = views ≡ views_of (live b.entries)
+ViewsKeepUp other ready views a b = views ≡ views_of b.config.form (live b.entries)
 
 -- What holds after a refusal by the rules, or where memory ran out.
 abbrev pub IfRefused : Answer → Type 0 → Type 0

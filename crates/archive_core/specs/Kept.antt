@@ -5,7 +5,7 @@ use Rattle.std.specs.List.{AllZip}
 use Rattle.mail_commits.specs.declared.ids.TextIds.{TextIds}
 use Rattle.mail_commits.specs.Ids.{text_ids_of}
 use Rattle.arch_base.specs.declared.ids.ObjectId.{ObjectId}
-use Rattle.arch_base.specs.declared.ids.Form.TheVariants as form
+use Rattle.arch_base.specs.declared.ids.Form.{Form}
 use Rattle.mail_reader.specs.Content.{content_id_of}
 use Rattle.mail_reader.specs.Ids.{own_id}
 use Rattle.arch_model.specs.Archives.{Entry, live, IsFree}
@@ -42,15 +42,16 @@ TakesBackText put new text blob number older = (old : Index) (id : List ℕ) →
 abbrev pub LosesText : Index → Index → List ℕ → Type 0
 LosesText old new text = (id : List ℕ) → own_id text ≡ Some id → IndexLoses old new id
 
--- No live message of the entries of which this is kept has the own id of a text.
+-- No live message of the entries of which this is kept, in whatever form, has the own id of a text.
 abbrev pub IsNewTo : List StoredEntry → List ℕ → Type 0
-IsNewTo kept text = (entries : List Entry) → AreOf kept entries → IsFree (live entries) text
+IsNewTo kept text = (form : Form) (entries : List Entry) → AreOf form kept entries
+    → IsFree (live entries) text
 
--- A text that is taken would be accepted, and these are its ids.
+-- A text that is taken would be accepted, and these are its ids, in the form of the archive.
 pub record MayGoIn (v : StoreState) (text : List ℕ) (ids : TextIds) : Type 0 where
   pub accepts : Accepts v text
   pub new_id : IsNewTo v.entries text
-  pub ids_are : ids ≡ text_ids_of form.Sha1 text
+  pub ids_are : ids ≡ text_ids_of v.root.config.form text
 
 -- A text that is taken by an index may be kept. A refusal is an answer to a delivery, or tells of a
 -- read that failed.

@@ -3,6 +3,7 @@ use Rattle.std.specs.Prelude.{◌≡◌, ◌≢◌, ℕ, Bool, true, false, ◌=
 use Rattle.std.specs.List.{list_any, Contains}
 use Rattle.arch_model.specs.declared.text_refusal.TextRefusal.{TextRefusal}
 use Rattle.arch_model.specs.declared.text_refusal.TextRefusal.TheVariants as reading
+use Rattle.arch_base.specs.declared.ids.Form.{Form}
 use Rattle.arch_base.specs.declared.ids.ObjectId.{ObjectId}
 use Rattle.disk_model.specs.Disk.{Content, WhereTold}
 use Rattle.arch_model.specs.Archives.{Entry, is_message}
@@ -37,10 +38,11 @@ abbrev pub HasBlobAt : List StoredEntry → ObjectId → ℕ → Type 0
 HasBlobAt entries id index = (e : StoredEntry) × (slice_get entries index ≡ Some e)
     × (e.seen.blob ≡ id)
 
--- The entry at this index has the text of a blob id, or no entry has one.
-abbrev pub IsBlobIndex : List Entry → ObjectId → Option ℕ → Type 0
-IsBlobIndex entries blob None = blob_text entries blob ≡ None
-IsBlobIndex entries blob (Some index) = blob_text entries blob ≡ text_if (slice_get entries index)
+-- The entry at this index has the text of a blob id of a form, or no entry has one.
+abbrev pub IsBlobIndex : Form → List Entry → ObjectId → Option ℕ → Type 0
+IsBlobIndex form entries blob None = blob_text form entries blob ≡ None
+IsBlobIndex form entries blob (Some index) =
+    blob_text form entries blob ≡ text_if (slice_get entries index)
 
 -- If bytes with another id were found, the two ids differ.
 abbrev pub TellsOther : {T : Type 0} → Result T TextRefusal → Type 0

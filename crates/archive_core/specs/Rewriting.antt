@@ -2,7 +2,6 @@
 use Rattle.std.specs.Prelude.{◌≡◌, ◌+◌, ◌-◌, ◌<◌, ◌^◌, ℕ, Bool, List, [], Some, Result, Ok, Err}
 use Rattle.arch_base.specs.Counts.{RoseIf}
 use Rattle.arch_base.specs.declared.ids.ObjectId.{ObjectId}
-use Rattle.arch_base.specs.declared.ids.Form.TheVariants as form
 use Rattle.disk_model.specs.declared.disk.Disk.{Ghosts as Disk}
 use Rattle.disk_model.specs.Disk.{BothTold, WhereTold}
 use Rattle.disk_model.specs.Moments.{LeavesOnly}
@@ -60,11 +59,12 @@ abbrev pub RefusesLate : Verdict → Type 0
 RefusesLate (Take text ids number) = Unit {0}
 RefusesLate (Refuse reply) = IsLate reply
 
--- A message may be kept in place of a text: an edit would be accepted, and these are its ids.
+-- A message may be kept in place of a text: an edit would be accepted, and these are its ids, in the
+-- form of the archive.
 pub record MayReplace (v : StoreState) (old : ObjectId) (text : List ℕ) (ids : TextIds) : Type 0 where
   pub number : ℕ
   pub edit : MayEdit v number old text
-  pub ids_are : ids ≡ text_ids_of form.Sha1 text
+  pub ids_are : ids ≡ text_ids_of v.root.config.form text
 
 -- A result without what it gives.
 abbrev pub bare : {T : Type 0} → Result T StoreRefusal → Result (Unit {0}) StoreRefusal

@@ -2,6 +2,7 @@
 -- command.
 use Rattle.std.specs.Prelude.{◌≡◌, ℕ, List, [], ◌∷◌, Option, Some, None}
 use Rattle.std.proofs.Common.{◌∙◌, sym, subst}
+use Rattle.arch_base.specs.declared.ids.Form.{Form}
 use Rattle.disk_model.specs.declared.disk.Disk.{Ghosts as Disk}
 use Rattle.disk_model.specs.Disk.{Files, Content, Image, BothTold, Unchanged}
 use Rattle.disk_model.specs.Moments.{started, joined}
@@ -49,22 +50,22 @@ abbrev pub without_gone : Viewed → Option ℕ → Viewed
 without_gone views None = views
 without_gone views (Some n) = without_mail views n
 
--- What an accepted command does to the views of live messages: a delivery adds the row and the words of
--- its text, a removal takes those of its number, a purge takes those of the number that is lost, and an
--- edit does both.
-abbrev pub ViewsDone : Command → Option ℕ → ℕ → List ℕ → ℕ → Viewed → Viewed → Type 0
-ViewsDone (Deliver bytes) lost number text moment old new =
-    new ≡ with_mail old (row_of number text moment) (mail_words text)
-ViewsDone (Remove n) lost number text moment old new = new ≡ without_mail old n
-ViewsDone (Purge n) lost number text moment old new = new ≡ without_gone old lost
-ViewsDone (Edit n bytes) lost number text moment old new =
-    new ≡ with_mail (without_gone old lost) (row_of number text moment) (mail_words text)
+-- What an accepted command does to the views of live messages, whose rows have ids of a form: a delivery
+-- adds the row and the words of its text, a removal takes those of its number, a purge takes those of the
+-- number that is lost, and an edit does both.
+abbrev pub ViewsDone : Form → Command → Option ℕ → ℕ → List ℕ → ℕ → Viewed → Viewed → Type 0
+ViewsDone form (Deliver bytes) lost number text moment old new =
+    new ≡ with_mail old (row_of form number text moment) (mail_words text)
+ViewsDone form (Remove n) lost number text moment old new = new ≡ without_mail old n
+ViewsDone form (Purge n) lost number text moment old new = new ≡ without_gone old lost
+ViewsDone form (Edit n bytes) lost number text moment old new =
+    new ≡ with_mail (without_gone old lost) (row_of form number text moment) (mail_words text)
 
 -- What a command that was answered so does to them. A refusal leaves them.
-abbrev pub ViewsAfter : Command → Option ℕ → Answer → List ℕ → ℕ → Viewed → Viewed → Type 0
-ViewsAfter command lost (answer.Ok number id) text moment old new =
-    ViewsDone command lost number text moment old new
-ViewsAfter command lost other text moment old new = new ≡ old
+abbrev pub ViewsAfter : Form → Command → Option ℕ → Answer → List ℕ → ℕ → Viewed → Viewed → Type 0
+ViewsAfter form command lost (answer.Ok number id) text moment old new =
+    ViewsDone form command lost number text moment old new
+ViewsAfter form command lost other text moment old new = new ≡ old
 
 -- An archive whose own disk is there is valid.
 pub store-valid : (v : StoreState) (cache : List ℕ) (a : Archive) (k : Option Content)

@@ -31,7 +31,7 @@ ghost use Rattle.archive_core.specs.Commands.{DoneBy, OnDone, OnRefusal, UnlessF
 
 use crate::placing::{MessagePlace, are_rising, end_place, may_follow, places_of};
 use crate::texts::{KeptText, end_text, put_text, take_text};
-use arch_base::{Bytes, Config, Form, NoMemory};
+use arch_base::{Bytes, Config, NoMemory};
 use arch_judge::{Index, Judgement, Verdict, compared, judge};
 use arch_model::{Answer, Command, OpenRefusal, TextRefusal};
 use disk_model::Disk;
@@ -178,7 +178,8 @@ impl DiskArchive {
         ensures unread { (a : Archive) (cache : List ℕ)
             → IsStoreWith self.old cache a (D.content disk.old) → text_known a command.now ≡ false
             → D.reads disk.new ≡ D.reads disk.old }
-        ensures text { IfDelivery (is_delivery command.now) (TellsText result kept.new) }
+        ensures text { IfDelivery (is_delivery command.now)
+            (TellsText self.old.root.config.form result kept.new) }
         ensures kept { (a : Archive) (cache : List ℕ)
             → IsStoreWith self.old cache a (D.content disk.old)
             → IfDelivery (is_delivery command.now)
@@ -211,7 +212,7 @@ impl DiskArchive {
         ensures unread { (a : Archive) (cache : List ℕ)
             → IsStoreWith self.old cache a (D.content disk.old) → form_known a (stored bytes.now) ≡ false
             → D.reads disk.new ≡ D.reads disk.old }
-        ensures text { TellsText result kept.new }
+        ensures text { TellsText self.old.root.config.form result kept.new }
         ensures kept { (a : Archive) (cache : List ℕ)
             → IsStoreWith self.old cache a (D.content disk.old)
             → OnDone result (KeepsText a (delivered a bytes.now moment) moment kept.new.text) }
@@ -253,7 +254,7 @@ impl DiskArchive {
         ensures count { ReadsOnce (D.reads disk.old) (D.reads disk.new) }
         ensures unread { (a : Archive) (cache : List ℕ) (gone : Option (List ℕ))
             → IsStoreWith self.now cache a (D.content disk.old)
-            → IsArchiveIndex (left_without a gone).entries index.now
+            → IsArchiveIndex a.config.form (left_without a gone).entries index.now
             → form_known (left_without a gone) (stored bytes.now) ≡ false
             → D.reads disk.new ≡ D.reads disk.old }
     {
@@ -392,7 +393,7 @@ impl DiskArchive {
         if !self.is_named(index, text) {
             return self.damaged(index);
         }
-        let ids = text_ids(text, Form::Sha1);
+        let ids = text_ids(text, self.config().form);
         match self
             .store
             .remove_entry(self.alloc, disk, number, text, &ids, moment)

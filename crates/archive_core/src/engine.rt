@@ -91,7 +91,7 @@ impl<D: Disk> Engine<D> {
         ensures refused { RefusesKindly (opened_or_why result) (D.content disk)
             (D.content (disk_opened result)) }
         ensures rows { (a : Archive) (cache : List ℕ) → ReadsWith cache a (D.content disk)
-            → IfOk result (λ opened. opened.views ≡ views_of (live a.entries)) }
+            → IfOk result (λ opened. opened.views ≡ views_of a.config.form (live a.entries)) }
         ensures ready { IfOk result (λ opened. opened.stale ≡ false) }
     {
         let mut disk = disk;
@@ -312,7 +312,7 @@ impl<D: Disk> Shelf for Engine<D> {
     fn blob(&mut self, id: &ObjectId, into: &mut Bytes) -> Result<bool, TextRefusal>
         requires ready { is_ready self.old ≡ true }
         ensures blob { (a : Archive) → HoldsArchive D.content self.old a
-            → GivesBlobIn a.entries id.now into.old into.new result }
+            → GivesBlobIn a.config.form a.entries id.now into.old into.new result }
         ensures kept { KeepsUnlessFound into.old into.new result }
         ensures appends { AppendsTo into.old into.new }
         ensures shelf { ShelfStays (HoldsArchive D.content) is_ready

@@ -40,7 +40,7 @@ impl Opened {
         ensures opened { OpensArchive D.Disk disk.old disk.new (view_opened result) }
         ensures refused { RefusesKindly result (D.content disk.old) (D.content disk.new) }
         ensures rows { (a : Archive) (cache : List ℕ) → ReadsWith cache a (D.content disk.old)
-            → IfOk result (λ opened. opened.views ≡ views_of (live a.entries)) }
+            → IfOk result (λ opened. opened.views ≡ views_of a.config.form (live a.entries)) }
     {
         law_of_stores();
         let archive = match DiskArchive::open(alloc, disk) {
@@ -63,7 +63,7 @@ impl DiskArchive {
     pub(crate) fn rows<D: Disk>(&self, alloc: Global, disk: &mut D) -> Result<Views, OpenRefusal>
         ensures rows { (a : Archive) (cache : List ℕ)
             → IsStoreWith self.now cache a (D.content disk.old)
-            → IfOk result (λ views. views ≡ views_of (live a.entries)) }
+            → IfOk result (λ views. views ≡ views_of a.config.form (live a.entries)) }
         ensures well { (a : Archive) (cache : List ℕ)
             → IsStoreWith self.now cache a (D.content disk.old) → OpensWell result }
         ensures sound { IsSound self.now (D.content disk.old) → OpensWell result }

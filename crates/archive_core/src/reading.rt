@@ -60,7 +60,8 @@ impl DiskArchive {
 
     /// Returns the entry at an index, from 0, without its text, or `None` if there are not so many.
     pub fn entry(&self, index: u64) -> Option<EntryLine>
-        ensures { (a : Archive) → KeepsArchive self.now a → result ≡ line_at a.entries index }
+        ensures { (a : Archive) → KeepsArchive self.now a
+            → result ≡ line_at a.config.form a.entries index }
     {
         self.store.entry(index)
     }
@@ -114,7 +115,7 @@ impl DiskArchive {
     ) -> Result<bool, TextRefusal>
         ensures blob { (a : Archive) (cache : List ℕ)
             → IsStoreWith self.now cache a (D.content disk.old)
-            → GivesBlobIn a.entries id.now into.old into.new result }
+            → GivesBlobIn a.config.form a.entries id.now into.old into.new result }
         ensures read { GivesBlobKept self.now (D.content disk.old) id.now into.old into.new result }
         ensures named { NamesId id.now result }
         ensures other { TellsOther result }
@@ -140,7 +141,7 @@ impl DiskArchive {
     fn blob_index(&self, id: &ObjectId) -> Option<u64>
         ensures known { IfSome result (HasBlobAt self.now.entries id.now) }
         ensures index { (a : Archive) → KeepsArchive self.now a
-            → IsBlobIndex a.entries id.now result }
+            → IsBlobIndex a.config.form a.entries id.now result }
     {
         let Some(number) = self.number_of(id) else {
             return None;
@@ -167,7 +168,8 @@ impl DiskArchive {
 
     /// Returns the number of the first entry with a blob id.
     fn number_of(&self, id: &ObjectId) -> Option<u32>
-        ensures { (a : Archive) → KeepsArchive self.now a → result ≡ blob_number a.entries id.now }
+        ensures { (a : Archive) → KeepsArchive self.now a
+            → result ≡ blob_number a.config.form a.entries id.now }
     {
         self.index.number(id)
     }
@@ -185,7 +187,7 @@ impl DiskArchive {
     ) -> Result<bool, TextRefusal>
         ensures bytes { (a : Archive) (cache : List ℕ)
             → IsStoreWith self.now cache a (D.content disk.old)
-            → GivesEpochIn (in_epoch a.entries epoch) into.old into.new result }
+            → GivesEpochIn a.config.form (in_epoch a.entries epoch) into.old into.new result }
         ensures kept { KeepsUnlessFound into.old into.new result }
         ensures appends { AppendsTo into.old into.new }
         ensures undamaged { AnswersQuietly result }

@@ -3,7 +3,6 @@
 ghost use Rattle.std.specs.Prelude.{Some, None, ◌≡◌, ◌≤◌, ℕ, Ok, Err, IfErr, IfOk, OnOk, List};
 ghost use Rattle.arch_base.specs.Counts.{RoseIf};
 ghost use Rattle.arch_base.specs.Moments.{last_moment};
-ghost use Rattle.arch_base.specs.declared.ids.Form.TheVariants as form;
 ghost use Rattle.disk_model.specs.Disk.{WhereTold};
 ghost use Rattle.mail_reader.specs.Stored.{stored as stored_of};
 ghost use Rattle.git_objects.specs.Objects.{blob_id_of};
@@ -24,7 +23,7 @@ use crate::archive::{DiskArchive, answer_of};
 use crate::entries::index_without;
 use crate::placing::{MessagePlace, count_without, live_with, may_follow, places_without};
 use crate::texts::{KeptText, put_text};
-use arch_base::{Bytes, Form, ObjectId};
+use arch_base::{Bytes, ObjectId};
 use arch_judge::{Index, Verdict};
 use arch_model::Answer;
 use disk_model::Disk;
@@ -83,7 +82,8 @@ impl DiskArchive {
             self.old self.new Renews (Drops blob.now) (bare result) }
         ensures kept_files { OnOk result (KeepsFiles self.old self.new blob.now) }
         ensures lives { (number : ℕ) (a : Archive) (text : List ℕ) → KeepsArchive self.old a
-            → text_of (messages a.entries) number ≡ Some text → blob_id_of form.Sha1 text ≡ blob.now
+            → text_of (messages a.entries) number ≡ Some text
+            → blob_id_of a.config.form text ≡ blob.now
             → IfOk result (IsLiveOf (live a.entries) text) }
     {
         let Ok(index) = index_without(self.alloc, self.store.stored(), blob) else {
@@ -120,7 +120,7 @@ impl DiskArchive {
         ensures taken { TakesCommand D.Disk disk.old
             disk.new self.old self.new (command.Edit number bytes.entry)
             (λ a. edited a number bytes.now moment) result }
-        ensures text { TellsText result kept.new }
+        ensures text { TellsText self.old.root.config.form result kept.new }
         ensures kept { (a : Archive) (cache : List ℕ)
             → IsStoreWith self.old cache a (D.content disk.old)
             → OnDone result (KeepsTextFor (command.Edit number bytes.entry) a
@@ -167,18 +167,19 @@ impl DiskArchive {
         ensures cause { RoseIf (result ≡ Err Answer.DiskFault) (D.faults disk.old) (D.faults disk.new) }
         ensures fewest { D.reads disk.old ≤ D.reads disk.new }
     {
-        let form = match stored(self.alloc, bytes) {
+        let wanted = match stored(self.alloc, bytes) {
             Err(StoredRefusal::NoFields) => return Err(Answer::NoFields),
             Err(StoredRefusal::TooLarge(len)) => return Err(Answer::TooLarge(len)),
             Err(StoredRefusal::NoMemory) => return Err(Answer::NoMemory),
-            Ok(form) => form,
+            Ok(wanted) => wanted,
         };
-        if blob_id(form.as_slice(), Form::Sha1) != self.store.stored()[index as usize].seen.blob {
+        let blob = blob_id(wanted.as_slice(), self.store.config().form);
+        if blob != self.store.stored()[index as usize].seen.blob {
             return Ok(false);
         }
         let mut text = Bytes::new(self.alloc);
         match self.store.text(disk, index, &mut text) {
-            Ok(()) => Ok(form.as_slice() == text.as_slice()),
+            Ok(()) => Ok(wanted.as_slice() == text.as_slice()),
             Err(refusal) => Err(self.unread(index, &refusal)),
         }
     }
@@ -202,7 +203,7 @@ impl DiskArchive {
         ensures edits { EditsAs D.Disk disk.old disk.new self.old
             self.new number bytes.now moment result }
         ensures kept_files { OnDone result (EditsFiles self.old self.new blob.now) }
-        ensures text { TellsText result kept.new }
+        ensures text { TellsText self.old.root.config.form result kept.new }
         ensures kept { (a : Archive) (cache gone : List ℕ)
             → IsStoreWith self.old cache a (D.content disk.old)
             → text_of (live a.entries) number ≡ Some gone

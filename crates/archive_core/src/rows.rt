@@ -1,7 +1,7 @@
 //! The rows, threads and words of live messages, as commands change them.
 //! Allocates.
 ghost use Rattle.std.specs.Prelude.{◌≡◌, true, is_ok, OnOk, OnErr};
-ghost use Rattle.arch_base.specs.declared.ids.Form.TheVariants as form;
+ghost use Rattle.arch_base.specs.declared.ids.Form.{Form};
 ghost use Rattle.git_objects.specs.Objects.{blob_id_of};
 ghost use Rattle.mail_reader.specs.Content.{content_id_of};
 ghost use Rattle.mail_reader.specs.StorageTexts.{IsStorageText};
@@ -33,11 +33,14 @@ pub(crate) fn follow(
     kept: &KeptText,
     moment: u64,
 ) -> Result<(), NoMemory>
-    requires text { IfDelivery (is_delivery command.now) (TellsText answer.now kept.now) }
-    ensures rows { OnOk result
-        (ViewsAfter command.now gone answer.now kept.now.text moment views.old views.new) }
-    ensures removed { IfRemoval (is_delivery command.now)
-        (ViewsAfter command.now gone answer.now kept.now.text moment views.old views.new) }
+    requires text { (form : Form)
+        × IfDelivery (is_delivery command.now) (TellsText form answer.now kept.now) }
+    // The rows have ids of the form of which the answer tells the blob id.
+    ensures rows { (form : Form)
+        → IfDelivery (is_delivery command.now) (TellsText form answer.now kept.now) → OnOk result
+        (ViewsAfter form command.now gone answer.now kept.now.text moment views.old views.new) }
+    ensures removed { (form : Form) → IfRemoval (is_delivery command.now)
+        (ViewsAfter form command.now gone answer.now kept.now.text moment views.old views.new) }
     ensures refused { OnRefusal answer.now (is_ok result ≡ true) }
 {
     match answer {
@@ -70,10 +73,10 @@ fn add_kept(
     moment: u64,
 ) -> Result<(), NoMemory>
     requires text { IsStorageText kept.now.text }
-    requires blob { blob.now ≡ blob_id_of form.Sha1 kept.now.text }
     requires content { kept.now.content ≡ content_id_of kept.now.text }
-    ensures ok { OnOk result (views.new ≡ with_mail views.old
-        (row_of number kept.now.text moment) (mail_words kept.now.text)) }
+    ensures ok { (form : Form) → blob.now ≡ blob_id_of form kept.now.text
+        → OnOk result (views.new ≡ with_mail views.old
+        (row_of form number kept.now.text moment) (mail_words kept.now.text)) }
     ensures err { OnErr result (views.new ≡ views.old) }
 {
     let ids = TextIds {

@@ -1,8 +1,7 @@
 //! A text that was kept, and its own id and blob id as an index has them.
 //! Allocates.
 ghost use Rattle.std.specs.Prelude.{◌≡◌, [], IsSome, Some, IfOk, OnOk, OnErr};
-ghost use Rattle.arch_base.specs.declared.ids.Form.TheVariants as form;
-ghost use Rattle.mail_commits.specs.Ids.{text_ids_of};
+ghost use Rattle.mail_reader.specs.Content.{content_id_of};
 ghost use Rattle.mail_reader.specs.Ids.{own_id as own_id_in};
 ghost use Rattle.arch_judge.specs.Indexes.{HasSame};
 ghost use Rattle.archive_core.specs.Kept.{PutsText, TakesBackText, LosesText};
@@ -44,7 +43,7 @@ pub(crate) fn put_text(
     number: u32,
 ) -> Result<(), NoMemory>
     requires own { IsSome (own_id_in text.now) }
-    requires ids { ids.now ≡ text_ids_of form.Sha1 text.now }
+    requires content { ids.now.content ≡ content_id_of text.now }
     ensures ok { OnOk result (PutsText index.old index.new text.now ids.now.blob number) }
     ensures err { OnErr result (HasSame index.old index.new) }
 {

@@ -84,7 +84,7 @@ returns-in-Ok-clause-kept g c = λ a cache store.
     sym (archive_taken a c.in-Take.text c.in-Take.text c.args.moment (delivered a c.args.bytes.now c.args.moment) _ refl ((judged a cache store).0 c.args.moment))
 
 pub returns-in-Err-clause-text : goal.returns-in-Err-clause-text
-returns-in-Err-clause-text g c = error-tells c.in-Err.refusal c.answer_of.result c.args.kept.now c.answer_of.ensures
+returns-in-Err-clause-text g c = error-tells c.args.self.now.root.config.form c.in-Err.refusal c.answer_of.result c.args.kept.now c.answer_of.ensures
 
 pub returns-in-Err-clause-kept : goal.returns-in-Err-clause-kept
 returns-in-Err-clause-kept g c = λ a cache store. error-done c.in-Err.refusal c.answer_of.result _ c.answer_of.ensures

@@ -98,7 +98,7 @@ pub returns-in-Err-clause-gone : goal.returns-in-Err-clause-gone
 returns-in-Err-clause-gone g c = unformed-never c.in-Err.answer _ c.in-Err.ensures.refused
 
 pub returns-in-Err-clause-text : goal.returns-in-Err-clause-text
-returns-in-Err-clause-text g c = unformed-tells c.in-Err.answer c.args.kept.now c.in-Err.ensures.refused
+returns-in-Err-clause-text g c = unformed-tells c.args.self.now.root.config.form c.in-Err.answer c.args.kept.now c.in-Err.ensures.refused
 
 pub returns-in-Err-clause-kept : goal.returns-in-Err-clause-kept
 returns-in-Err-clause-kept g c = λ a cache store. unformed-never c.in-Err.answer _ c.in-Err.ensures.refused

@@ -1,4 +1,7 @@
 use Rattle.std.proofs.Common.{◌≡◌, ◌+◌, ◌-◌, ◌<◌, ◌∙◌, None, sym, ap, subst, length, refl}
+use Rattle.arch_base.specs.declared.ids.Form.{Form}
+use Rattle.arch_base.specs.declared.config.Config.{Config}
+use Rattle.git_objects.specs.Objects.{blob_id_of}
 use Rattle.std.proofs.lemmas.Option.{slice_get_within}
 use Rattle.disk_model.specs.Moments.{LeavesOnly}
 use Rattle.arch_model.specs.Archives.{Archive}
@@ -12,7 +15,7 @@ use Rattle.archive_core.specs.DamageTold.{TellsDamage}
 use Rattle.archive_core.specs.Engines.{told-same}
 use Rattle.archive_core.specs.Placing.{message_places, ends_place, PlacesRise}
 use Rattle.archive_core.specs.Walks.{looks-same}
-use Rattle.archive_core.proofs.Indexes.{indexes-ended}
+use Rattle.archive_core.proofs.Indexes.{form-is, indexes-ended}
 use Rattle.archive_core.proofs.Removing.{named-at, removed-is, places-ended, written-back}
 use Rattle.archive_core.proofs.RisingPlaces.{rise-ended}
 use Rattle.archive_core.proofs.Standing.{store_keeps}
@@ -54,7 +57,9 @@ returns-in-Ok-clause-done g c = λ a cache store room shown.
     let k = g.D.Disk.content c.args.disk.now in
     let is = removed-is c.args.self.now a c.args.number c.args.moment c.args.text.now (store_keeps c.args.self.now cache a k store) c.requires.writable shown in
     record {
-      answer_is = ap (λ (d : Done). d.answer) is ∙ ap (λ (i : TextIds). answer.Ok c.args.number i.blob) (sym c.text_ids-ids.ensures);
+      answer_is = ap (λ (d : Done). d.answer) is
+          ∙ ap (λ (f : Form). answer.Ok c.args.number (blob_id_of f c.args.text.now)) (sym (ap (λ (k : Config). k.form) c.config.ensures ∙ form-is c.args.self.now a (store_keeps c.args.self.now cache a k store)))
+          ∙ ap (λ (i : TextIds). answer.Ok c.args.number i.blob) (sym c.text_ids-ids.ensures);
       store = subst (λ (b : Archive). IsStoreWith c.remove_entry.new.self cache b (g.D.Disk.content c.remove_entry.new.disk)) (sym (ap (λ (d : Done). d.archive) is))
           (c.in-Ok.ensures.changes.done a _ cache (subst (λ (v : StoreState). IsStoreWith v cache a k) (sym c.self.view_is) store) (subst (λ (v : StoreState). v.root.sequence + 1 < 18446744073709551616) (sym c.self.view_is) room) (record { shown = shown; is = refl }));
     }

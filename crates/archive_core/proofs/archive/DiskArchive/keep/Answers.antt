@@ -1,4 +1,5 @@
 use Rattle.std.proofs.Common.{refl, Ok, ◌≡◌, ◌∙◌, ◌++◌, ◌∷◌, [], ℕ, true, List, length, is_ok, sym, ap, subst, arith, rules}
+use Rattle.git_objects.specs.Objects.{blob_id_of}
 use Rattle.epoch_store.specs.Promises.{AddsMessage, Appends, ChangesStore}
 use Rattle.store_finding.specs.Kept.{StoreState}
 use Rattle.epoch_store.proofs.Changing.{unstarted}
@@ -28,7 +29,7 @@ invariant_of-self-2 g c =
     let room = c.in-Ok.ensures.ok in
     let more = pushed (is_ok c.push.result) c.reserve.new.self.items c.push.new.self.items (record { number = c.next_number-number.result; entry = length c.stored-entry.result.now; live = true }) c.push.ensures.items (c.push.ensures.succeeds (omega (arith, room))) in
     let count : length c.stored-entry.result.now ≡ length c.self.inside.store.entries = ap length c.stored-entry.ensures in (
-      indexes-added c.self.inside.store c.deliver_entry.new.self c.self.inside.index c.put_text.new.index c.args.text.now c.args.ids.now.blob c.self.invariant.0 (ap (λ (i : TextIds). i.blob) c.requires.may.ids_are) puts c.in_default-deliver_entry.ensures.added,
+      indexes-added c.self.inside.store c.deliver_entry.new.self c.self.inside.index c.put_text.new.index c.args.text.now c.args.ids.now.blob c.self.invariant.0 (ap (λ (i : TextIds). i.blob) c.requires.may.ids_are ∙ ap (λ (v : StoreState). blob_id_of v.root.config.form c.args.text.now) (sym c.self.view_is)) puts c.in_default-deliver_entry.ensures.added,
       more
           ∙ ap (λ (ps : List MessagePlace). ps ++ record { number = c.next_number-number.result; entry = length c.stored-entry.result.now; live = true } ∷ []) (c.reserve.ensures.items ∙ c.self.invariant.1)
           ∙ ap (λ (n : ℕ). message_places 0 c.self.inside.store.entries ++ place_of n (length c.stored-entry.result.now) true ∷ []) number

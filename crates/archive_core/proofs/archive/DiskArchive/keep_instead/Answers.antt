@@ -1,4 +1,5 @@
 use Rattle.std.proofs.Common.{refl, ◌≡◌, ◌∙◌, ◌++◌, ◌∷◌, [], true, List, Ok, length, sym, ap, subst, rules, ℕ}
+use Rattle.git_objects.specs.Objects.{blob_id_of}
 use Rattle.mail_commits.specs.declared.ids.TextIds.{TextIds}
 use Rattle.store_finding.specs.declared.entries.StoredEntry.{StoredEntry}
 use Rattle.store_finding.specs.Kept.{StoreState}
@@ -36,7 +37,7 @@ invariant_of-self g c =
     let rise : PlacesRise (message_places 0 old.entries) = subst PlacesRise c.self.invariant.1 c.self.invariant.2 in
     let last : MessagePlace = record { number = c.next_number-new.result; entry = c.count_without-entry.result; live = true } in
     let more : c.push.new.self.items ≡ c.in-Ok-places_without.places.items ++ last ∷ [] = c.in-Ok-push.ensures.items in (
-      indexes-edited old c.edit_text.new.self c.args.index c.put_text.new.index gone c.args.ids.now.blob c.args.text.now indexed (ap (λ (i : TextIds). i.blob) c.requires.may.ids_are) puts c.in-Ok-edit_text.ensures.edited,
+      indexes-edited old c.edit_text.new.self c.args.index c.put_text.new.index gone c.args.ids.now.blob c.args.text.now indexed (ap (λ (i : TextIds). i.blob) c.requires.may.ids_are ∙ ap (λ (v : StoreState). blob_id_of v.root.config.form c.args.text.now) (sym c.self.view_is)) puts c.in-Ok-edit_text.ensures.edited,
       more
           ∙ ap (λ (ps : List MessagePlace). ps ++ last ∷ []) placed
           ∙ ap (λ (n : ℕ). message_places 0 (without_blob old.entries gone) ++ place_of n c.count_without-entry.result true ∷ []) number

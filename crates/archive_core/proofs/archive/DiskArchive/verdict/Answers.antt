@@ -6,14 +6,14 @@ use Rattle.archive_core.proofs.Standing.{store_keeps}
 use Rattle.archive_core.proofs.TellingDamage.{compared-damage, judged-damage}
 use Rattle.archive_core.proofs.Unmoved.{if-final, if-none-read, if-compared}
 use Rattle.archive_core.proofs.Verdicts.{judges-read, unread-judges, compares, alone-final, alone-same, judged-by, judged-cause, unread-by, compared-by, final-late, last-late, unread-late}
-use Rattle.archive_core.proofs.WithoutText.{known-left, reads-left, left-config, left-next, left-agree}
+use Rattle.archive_core.proofs.WithoutText.{known-left, left-indexed, reads-left, left-config, left-next, left-agree}
 use Rattle.archive_core.proofs.archive.DiskArchive.verdict.Goals as goal
 
 pub returns-in-Final-clause-judged : goal.returns-in-Final-clause-judged
 returns-in-Final-clause-judged g c = λ a cache gone own indexed.
     let keeps = store_keeps c.args.self.now cache a (g.D.Disk.content c.args.disk.now) own in (
       judges-read (left_without a gone) c.args.bytes.now c.in-Final.verdict (c.in-Final.ensures.judged (left_without a gone) (known-left c.args.self.now a c.config-config.result.now c.args.index.now c.next_number-next.result gone keeps (c.config-config.ensures ∙ ap (λ (v : StoreState). v.root.config) c.self.view_is) (c.next_number-next.ensures ∙ ap (λ (v : StoreState). v.root.next) c.self.view_is) indexed)),
-      alone-final (left_without a gone) c.config-config.result.now c.args.index.now c.next_number-next.result c.in-Final.verdict indexed c.in-Final.ensures.taken,
+      alone-final (left_without a gone) c.config-config.result.now c.args.index.now c.next_number-next.result c.in-Final.verdict (left-config a gone ∙ sym (c.config-config.ensures ∙ ap (λ (v : StoreState). v.root.config) c.self.view_is ∙ keeps.names.config)) (left-indexed a gone c.args.index.now indexed) c.in-Final.ensures.taken,
     )
 
 pub returns-in-Final-clause-taken : goal.returns-in-Final-clause-taken
@@ -45,7 +45,7 @@ returns-in-Ok-clause-judged g c = λ a cache gone own indexed.
       judges-read b c.args.bytes.now c.compared.result
           (c.compared.ensures.judged b c.args.bytes.now (left-config a gone ∙ sym (c.config-config.ensures ∙ ap (λ (v : StoreState). v.root.config) c.self.view_is ∙ keeps.names.config)) (left-next a gone ∙ sym (c.next_number-next.ensures ∙ ap (λ (v : StoreState). v.root.next) c.self.view_is ∙ keeps.names.next))
           (compares b c.args.bytes.now c.in-Compare.text c.as_slice.result.now c.in-Compare.ids.blob c.in-Compare.number agree compared still)),
-      alone-same b c.config-config.result.now c.args.index.now c.next_number-next.result c.in-Compare.text c.as_slice.result.now c.in-Compare.ids c.in-Compare.number c.compared.result agree indexed c.in-Compare.ensures.taken.0.ids_are c.in-Compare.ensures.taken.1 still c.compared.ensures.taken c.compared.ensures.same,
+      alone-same b c.config-config.result.now c.args.index.now c.next_number-next.result c.in-Compare.text c.as_slice.result.now c.in-Compare.ids c.in-Compare.number c.compared.result (left-config a gone ∙ sym (c.config-config.ensures ∙ ap (λ (v : StoreState). v.root.config) c.self.view_is ∙ keeps.names.config)) agree (left-indexed a gone c.args.index.now indexed) c.in-Compare.ensures.taken.0.ids_are c.in-Compare.ensures.taken.1 still c.compared.ensures.taken c.compared.ensures.same,
     )
 
 pub returns-in-Ok-clause-taken : goal.returns-in-Ok-clause-taken

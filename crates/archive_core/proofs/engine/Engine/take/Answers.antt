@@ -1,8 +1,9 @@
 use Rattle.std.specs.Prelude.{◌+◌, ◌-◌, ◌<◌, ◌^◌}
+use Rattle.arch_base.specs.declared.ids.Form.{Form}
 use Rattle.std.proofs.Common.{◌≡◌, ◌∙◌, ◌||◌, ℕ, List, false, not, is_ok, ap, sym, subst, arith}
 use Rattle.std.proofs.lemmas.Bool.{false≢true}
 use Rattle.arch_model.specs.Keeping.{text_known}
-use Rattle.archive_core.specs.Commands.{cache_left, is_delivery}
+use Rattle.archive_core.specs.Commands.{cache_left, is_delivery, IfDelivery, TellsText}
 use Rattle.archive_core.specs.DamageTold.{TellsDamage}
 use Rattle.disk_model.specs.Disk.{WhereTold}
 use Rattle.epoch_store.specs.Commands.{StoreHasSizes}
@@ -12,6 +13,7 @@ use Rattle.arch_model.specs.Archives.{Archive}
 use Rattle.arch_model.specs.Delivery.{applied}
 use Rattle.archive_core.proofs.RootBytes.{begins-between}
 use Rattle.archive_core.proofs.Engines.{starved-at, starved-takes, taken-by-parts, still-left, left-from, done-from, taken-from, answer-cause-from, refused-from, unmoved-from, removed-from, of-removal, kept-or-none}
+use Rattle.archive_core.proofs.Indexes.{form-is}
 use Rattle.archive_core.proofs.KeepingUp.{kept-up, followed-ready, needs-stale, on-ok, stays-ready}
 use Rattle.archive_core.proofs.Standing.{store_keeps}
 use Rattle.archive_core.proofs.engine.Engine.take.Goals as goal
@@ -56,14 +58,15 @@ returns-clause-stands g c =
     kept-up a c.args.command.now c.args.moment c.command_keeping-answer.new.kept.text c.command_keeping-answer.new.gone c.command_keeping-answer.new.self cache (cache_left c.args.command.now cache) (g.D.Disk.content c.command_keeping-answer.new.disk) c.self.inside.views c.follow-followed.new.views (not c.is_left_stale-self-inside.result) ok reply
     (store_keeps c.self.inside.archive cache a (g.D.Disk.content c.self.inside.disk) store).valid old_is (c.command_keeping-answer.ensures.taken.done a cache store room)
     (c.command_keeping-answer.ensures.kept a cache store) (c.command_keeping-answer.ensures.gone a cache store) (λ ready. followed-ready (needs_opening reply) ok (ap not (sym stale_is) ∙ ready)) c.follow-followed.ensures.refused
-    (λ went. on-ok c.follow-followed.result _ c.follow-followed.ensures.rows went))
+    (λ went. on-ok c.follow-followed.result _ (c.follow-followed.ensures.rows a.config.form
+    (subst (λ (f : Form). IfDelivery (is_delivery c.args.command.now) (TellsText f reply c.command_keeping-answer.new.kept)) (form-is c.self.inside.archive a (store_keeps c.self.inside.archive cache a (g.D.Disk.content c.self.inside.disk) store)) c.command_keeping-answer.ensures.text)) went))
     c.command_keeping-answer.ensures.taken.untouched c.command_keeping-answer.ensures.taken.settled
 
 pub returns-clause-ready : goal.returns-clause-ready
 returns-clause-ready g c = stays-ready c.is_left_stale-self-inside.result (is_ok c.follow-followed.result) c.command_keeping-answer.result c.is_left_stale-self-inside.ensures c.follow-followed.ensures.refused
 
 pub follow-followed-requires : goal.follow-followed-requires
-follow-followed-requires g c = record { text = c.command_keeping-answer.ensures.text }
+follow-followed-requires g c = record { text = (c.self.inside.archive.root.config.form, c.command_keeping-answer.ensures.text) }
 
 pub returns-clause-cause : goal.returns-clause-cause
 returns-clause-cause g c = answer-cause-from g.D.Disk g.met.D.Disk.counts_now g.met.D.Disk.only_now g.met.D.Disk.reads_fit
@@ -80,17 +83,17 @@ returns-then-not-has_next_root-clause-untouched g c = reading-same g.D.Disk g.me
 
 pub returns-clause-untouched : goal.returns-clause-untouched
 returns-clause-untouched g c = refused-from g.D.Disk g.met.D.Disk.counts_now g.met.D.Disk.only_now g.met.D.Disk.reads_fit
-    (record { disk = c.self.inside.disk; view = c.self.inside.archive; views = c.self.inside.views; stale = c.self.inside.stale }) c.args.self.now c.self.view_is
+    (record { disk = c.self.inside.disk; view = c.self.inside.archive; views = c.self.inside.views; stale = c.self.inside.stale }) c.args.self.now c.self.view_is c.self.inside.archive.root.config.form
     (record { disk = c.command_keeping-answer.new.disk; view = c.command_keeping-answer.new.self; views = c.follow-followed.new.views; stale = c.is_left_stale-self-inside.result })
     (is_ok c.follow-followed.result) c.args.command.now c.command_keeping-answer.new.gone c.command_keeping-answer.new.kept.text c.args.moment c.command_keeping-answer.result c.requires.ready c.is_left_stale-self-inside.ensures c.follow-followed.ensures.refused c.command_keeping-answer.ensures.taken.same
-    (λ went. on-ok c.follow-followed.result _ c.follow-followed.ensures.rows went) c.command_keeping-answer.ensures.taken.untouched
+    (λ went. on-ok c.follow-followed.result _ (c.follow-followed.ensures.rows c.self.inside.archive.root.config.form c.command_keeping-answer.ensures.text) went) c.command_keeping-answer.ensures.taken.untouched
 
 pub returns-clause-unmoved : goal.returns-clause-unmoved
 returns-clause-unmoved g c = unmoved-from g.D.Disk g.met.D.Disk.counts_now g.met.D.Disk.only_now g.met.D.Disk.reads_fit
-    (record { disk = c.self.inside.disk; view = c.self.inside.archive; views = c.self.inside.views; stale = c.self.inside.stale }) c.args.self.now c.self.view_is
+    (record { disk = c.self.inside.disk; view = c.self.inside.archive; views = c.self.inside.views; stale = c.self.inside.stale }) c.args.self.now c.self.view_is c.self.inside.archive.root.config.form
     (record { disk = c.command_keeping-answer.new.disk; view = c.command_keeping-answer.new.self; views = c.follow-followed.new.views; stale = c.is_left_stale-self-inside.result })
     (is_ok c.follow-followed.result) c.args.command.now c.command_keeping-answer.new.gone c.command_keeping-answer.new.kept.text c.args.moment c.command_keeping-answer.result c.requires.ready c.is_left_stale-self-inside.ensures c.follow-followed.ensures.refused c.command_keeping-answer.ensures.taken.same
-    (λ went. on-ok c.follow-followed.result _ c.follow-followed.ensures.rows went) c.command_keeping-answer.ensures.taken.unmoved
+    (λ went. on-ok c.follow-followed.result _ (c.follow-followed.ensures.rows c.self.inside.archive.root.config.form c.command_keeping-answer.ensures.text) went) c.command_keeping-answer.ensures.taken.unmoved
 
 pub returns-then-not-has_next_root-clause-removed : goal.returns-then-not-has_next_root-clause-removed
 returns-then-not-has_next_root-clause-removed g c = of-removal (is_delivery c.args.command.now) _ (λ a held. tt)

@@ -8,4 +8,4 @@ use Rattle.archive_core.proofs.engine.EngineShelf.live_count.Goals as goal
 
 pub returns : goal.returns
 returns g c = λ a store. c.live_count.ensures ∙ ap (λ (v : Viewed). live_between v.rows c.args.low c.args.high) (views-inside g.D.Disk g.met.D.Disk.counts_now g.met.D.Disk.only_now g.met.D.Disk.reads_fit
-    (record { disk = c.self.inside.disk; view = c.self.inside.archive; views = c.self.inside.views; stale = c.self.inside.stale }) c.args.self.now c.self.view_is a store) ∙ crash_between-live (live a.entries) c.args.low c.args.high
+    (record { disk = c.self.inside.disk; view = c.self.inside.archive; views = c.self.inside.views; stale = c.self.inside.stale }) c.args.self.now c.self.view_is a store) ∙ crash_between-live a.config.form (live a.entries) c.args.low c.args.high

@@ -14,4 +14,4 @@ returns g c = λ a store.
     let valid = (kept-inside g.D.Disk g.met.D.Disk.counts_now g.met.D.Disk.only_now g.met.D.Disk.reads_fit
     (record { disk = c.self.inside.disk; view = c.self.inside.archive; views = c.self.inside.views; stale = c.self.inside.stale }) c.args.self.now c.self.view_is a store).valid in
     IfOk-weaker c.search.result (λ ns. ns ≡ searched c.args.query.now c.self.inside.views) (λ ns. ns ≡ search c.args.query.now (live a.entries))
-    (λ ns is. is ∙ ap (searched c.args.query.now) views_are ∙ search-is c.args.query.now a valid) c.search.ensures
+    (λ ns is. is ∙ ap (searched c.args.query.now) views_are ∙ search-is a.config.form c.args.query.now a valid) c.search.ensures

@@ -13,4 +13,4 @@ returns g c = λ a store.
     let views_are = views-inside g.D.Disk g.met.D.Disk.counts_now g.met.D.Disk.only_now g.met.D.Disk.reads_fit
     (record { disk = c.self.inside.disk; view = c.self.inside.archive; views = c.self.inside.views; stale = c.self.inside.stale }) c.args.self.now c.self.view_is a store in
     IfOk-weaker c.thread_of.result (λ ns. ns ≡ thread_in c.self.inside.views.rows c.args.n) (λ ns. ns ≡ threaded (live a.entries) c.args.n)
-    (λ ns is. is ∙ ap (λ (v : Viewed). thread_in v.rows c.args.n) views_are ∙ threads-are (live a.entries) c.args.n) c.thread_of.ensures.members
+    (λ ns is. is ∙ ap (λ (v : Viewed). thread_in v.rows c.args.n) views_are ∙ threads-are a.config.form (live a.entries) c.args.n) c.thread_of.ensures.members
