@@ -1,7 +1,7 @@
 //! Archives in memory and on disks, as tests make and ask them.
 ghost use Rattle.std.specs.Prelude.{◌≤◌};
 
-use arch_base::{Bytes, Form, LAST_MOMENT, id_of_hex};
+use arch_base::{Bytes, Form, LAST_MOMENT, ObjectId, id_of_hex};
 use arch_model::{Answer, Command, EntryLine, Keep, OpenRefusal};
 use archive_core::{Engine, NotMade, NotOpened};
 use disk_model::MemDisk;
@@ -52,9 +52,17 @@ pub fn opened(alloc: Global, disk: MemDisk) -> Result<Engine<MemDisk>, OpenRefus
     }
 }
 
+/// Returns the id with these digits, 40 of a SHA-1 or 64 of a SHA-256.
+fn id_of(hex: &[u8]) -> Option<ObjectId> {
+    match id_of_hex(hex, Form::Sha1) {
+        Some(id) => Some(id),
+        None => id_of_hex(hex, Form::Sha256),
+    }
+}
+
 /// Returns the answer to what is kept under this number with this blob id.
 pub fn accepted(number: u32, hex: &[u8]) -> Option<Answer> {
-    let id = id_of_hex(hex, Form::Sha1)?;
+    let id = id_of(hex)?;
     Some(Answer::Ok { number, id })
 }
 
@@ -115,7 +123,7 @@ pub fn epoch_len<K: Keep>(alloc: Global, keep: &mut K, epoch: u32) -> Result<Opt
 
 /// Appends the text of a blob id, and returns whether an entry has it.
 pub fn put_blob<K: Keep>(keep: &mut K, hex: &[u8], into: &mut Bytes) -> Result<bool, Fail> {
-    let id = id_of_hex(hex, Form::Sha1).ok_or("no id")?;
+    let id = id_of(hex).ok_or("no id")?;
     keep.fresh()?;
     Ok(keep.blob(&id, into)?)
 }
@@ -132,14 +140,24 @@ pub fn blob_is<K: Keep>(
     Ok(found && text.as_slice() == wanted)
 }
 
-/// Returns whether an entry of the first mail has this kind, number and commit.
-pub fn is_entry(entry: Option<EntryLine>, kind: EntryKind, number: u32, commit: &[u8]) -> bool {
+/// Returns whether an entry has this kind, number, blob and commit.
+pub fn is_entry_of(
+    entry: Option<EntryLine>,
+    kind: EntryKind,
+    number: u32,
+    blob: &[u8],
+    commit: &[u8],
+) -> bool {
     let Some(line) = entry else {
         return false;
     };
     let named = line.kind == kind && line.number == number;
-    let kept = Some(line.blob) == id_of_hex(FIRST_ID, Form::Sha1);
-    named && kept && Some(line.commit) == id_of_hex(commit, Form::Sha1)
+    named && Some(line.blob) == id_of(blob) && Some(line.commit) == id_of(commit)
+}
+
+/// Returns whether an entry of the first mail has this kind, number and commit.
+pub fn is_entry(entry: Option<EntryLine>, kind: EntryKind, number: u32, commit: &[u8]) -> bool {
+    is_entry_of(entry, kind, number, FIRST_ID, commit)
 }
 
 /// Returns whether the first mail and its removal are the two entries, in an epoch of 672 bytes.

@@ -9,6 +9,8 @@ mod counting_tests;
 #[cfg(test)]
 mod engine_tests;
 #[cfg(test)]
+mod form_tests;
+#[cfg(test)]
 mod model_tests;
 #[cfg(test)]
 mod reading_tests;
