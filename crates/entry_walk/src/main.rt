@@ -1,8 +1,8 @@
 //! Carries out deliveries, removals, purges and edits, and prints the answers and the epochs: `tests/git`
 //! and `tests/epochs` have git judge what it prints.
 //!
-//! The first line of the standard input is the limit of an epoch, in bytes. After it come lines
-//! `deliver MOMENT LENGTH` and `edit MOMENT NUMBER LENGTH`, each before a message of LENGTH bytes, and
+//! The first line of the standard input is the limit of an epoch, in bytes, with ` sha256` after it where
+//! the SHA-256 is to name the objects, in place of the SHA-1. After it come lines `deliver MOMENT LENGTH` and `edit MOMENT NUMBER LENGTH`, each before a message of LENGTH bytes, and
 //! lines `remove MOMENT NUMBER` and `purge MOMENT NUMBER`.
 //! Printed are the line of each answer and then, for each epoch that has an entry, the line
 //! `epoch NUMBER LENGTH`, its bytes, and a line feed. What can't be read ends the input.
@@ -32,10 +32,14 @@ fn main(rt: HostRuntime) -> anyhow::Result<()> {
     Ok(())
 }
 
-/// Returns an archive without entries whose limit is the first line of an input, and the rest.
+/// Returns an archive without entries whose limit and form are the first line of an input, and the rest.
 fn begun(alloc: Global, input: &[u8]) -> Option<(MemArchive, &[u8])> {
     let (line, rest) = next_line(input)?;
-    let limit = read_decimal(line)?;
+    let (limit, form) = match line.strip_suffix(b" sha256") {
+        Some(limit) => (limit, Form::Sha256),
+        None => (line, Form::Sha1),
+    };
+    let limit = read_decimal(limit)?;
     if limit == 0 || limit > 1_099_511_627_776 {
         return None;
     }
@@ -46,7 +50,7 @@ fn begun(alloc: Global, input: &[u8]) -> Option<(MemArchive, &[u8])> {
         max: 2_147_483_647,
         mirror: false,
         born: 1,
-        form: Form::Sha1,
+        form,
     };
     Some((MemArchive::new(alloc, config), rest))
 }
