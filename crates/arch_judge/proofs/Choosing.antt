@@ -144,7 +144,7 @@ own_new law index text content from free = by (own_id text) refl free where
   }
 
 -- How the own id of a text meets an index decides in each archive of that index, before its made ids.
-pub own_decides : (a : Archive) (index : Index) (text content : List ℕ) (m : Meeting) → IsArchiveIndex a.entries index → content ≡ content_id_of text → m ≡ met_own index.owners (own_id text) content → choice_of a text ≡ decided m text (all_made a text)
+pub own_decides : (a : Archive) (index : Index) (text content : List ℕ) (m : Meeting) → IsArchiveIndex a.config.form a.entries index → content ≡ content_id_of text → m ≡ met_own index.owners (own_id text) content → choice_of a text ≡ decided m text (all_made a text)
 own_decides a index text content m indexed content_is = by (own_id text) where
   chooses : Meeting → Choice
   chooses met_so = decided met_so text (all_made a text)

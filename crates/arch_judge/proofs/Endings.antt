@@ -6,7 +6,7 @@ use Rattle.std.proofs.lemmas.Bool.Decides.{nat_tests}
 use Rattle.std.proofs.lemmas.Slice.Eq.{bytes_eq-Decides}
 use Rattle.arch_base.specs.Ids.{id_eq}
 use Rattle.arch_base.specs.declared.ids.ObjectId.{ObjectId}
-use Rattle.arch_base.specs.declared.ids.Form.TheVariants as form
+use Rattle.arch_base.specs.declared.ids.Form.{Form}
 use Rattle.arch_base.proofs.IdOrder.{id_eq-Decides}
 use Rattle.mail_reader.specs.Ids.{own_id}
 use Rattle.git_objects.specs.Objects.{blob_id_of}
@@ -119,9 +119,9 @@ lose_step true found = refl
 lose_step false found = refl
 
 -- An index that lost the own id of a live message is the index after the deletion of that message.
-pub IsArchiveIndex-ends : (es : List Entry) (n epoch : ℕ) (text : List ℕ) (moment number first : ℕ) (old new : Index) (own : List ℕ) → IsArchiveIndex es old → Rise number first es → IdsDiffer (live es) → text_of (live es) n ≡ Some text → own_id text ≡ Some own → IndexLoses old new own
-    → IsArchiveIndex (es ++ deletion n epoch text moment ∷ []) new
-IsArchiveIndex-ends es n epoch text moment number first old new own is rise differ shown own_is lost = record {
+pub IsArchiveIndex-ends : {form : Form} (es : List Entry) (n epoch : ℕ) (text : List ℕ) (moment number first : ℕ) (old new : Index) (own : List ℕ) → IsArchiveIndex form es old → Rise number first es → IdsDiffer (live es) → text_of (live es) n ≡ Some text → own_id text ≡ Some own → IndexLoses old new own
+    → IsArchiveIndex form (es ++ deletion n epoch text moment ∷ []) new
+IsArchiveIndex-ends {form} es n epoch text moment number first old new own is rise differ shown own_is lost = record {
   owners = λ q.
       lost.owners q
       ∙ ap (λ (f : Option Owner). if bytes_eq q own then None else f) (is.owners q)
@@ -130,7 +130,7 @@ IsArchiveIndex-ends es n epoch text moment number first old new own is rise diff
   blobs = λ q.
       lost.blobs q
       ∙ is.blobs q
-      ∙ kept_put (id_eq q (blob_id_of form.Sha1 text)) n (blob_number es q)
-      (λ yes none. has-blob es text (live-has es text (found-has (live es) n text shown)) (subst (λ (b : ObjectId). blob_number es b ≡ None) ((id_eq-Decides q (blob_id_of form.Sha1 text)).0 yes) none))
-      ∙ sym (blob_number-push es (deletion n epoch text moment) q);
+      ∙ kept_put (id_eq q (blob_id_of form text)) n (blob_number form es q)
+      (λ yes none. has-blob form es text (live-has es text (found-has (live es) n text shown)) (subst (λ (b : ObjectId). blob_number form es b ≡ None) ((id_eq-Decides q (blob_id_of form text)).0 yes) none))
+      ∙ sym (blob_number-push form es (deletion n epoch text moment) q);
 }

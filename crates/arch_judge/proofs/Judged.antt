@@ -5,7 +5,7 @@ use Rattle.std.specs.Str.{bytes_eq}
 use Rattle.std.proofs.lemmas.Bool.Decides.{nat_tests}
 use Rattle.arch_base.specs.declared.config.Config.{Config}
 use Rattle.arch_base.specs.declared.ids.ObjectId.{ObjectId}
-use Rattle.arch_base.specs.declared.ids.Form.TheVariants as form
+use Rattle.arch_base.specs.declared.ids.Form.{Form}
 use Rattle.git_objects.specs.Objects.{blob_id_of}
 use Rattle.mail_reader.specs.Content.{content_id_of}
 use Rattle.mail_commits.specs.Ids.{text_ids_of}
@@ -39,46 +39,47 @@ module _ (a : Archive) (config : Config) (index : Index) (next : ℕ) (known : I
     pub chosen : (source : List ℕ) (choice : Choice) → stored bytes ≡ Ok source → choice ≡ choice_of a source → (moment : ℕ) → delivered a bytes moment ≡ delivered_choice a moment choice
     chosen source choice is choice_is moment = formed (Ok source) is moment ∙ ap (delivered_choice a moment) (sym choice_is)
 
-    module _ (source text : List ℕ) (ids : TextIds) (is : stored bytes ≡ Ok source) (takes : choice_of a source ≡ Take text) (ids_are : ids ≡ text_ids_of form.Sha1 text) where
-      at_text : {X : Type 0} (f : ObjectId → X) → f (blob_id_of form.Sha1 text) ≡ f ids.blob
-      at_text f = ap (λ (i : TextIds). f i.blob) (sym ids_are)
+    module _ (source text : List ℕ) (ids : TextIds) (is : stored bytes ≡ Ok source) (takes : choice_of a source ≡ Take text) (ids_are : ids ≡ text_ids_of config.form text) where
+      at_text : {X : Type 0} (f : ObjectId → X) → f (blob_id_of a.config.form text) ≡ f ids.blob
+      at_text f = ap (λ (c : Config). f (blob_id_of c.form text)) known.config_is ∙ ap (λ (i : TextIds). f i.blob) (sym ids_are)
 
       -- The text of the first entry with the blob id decides.
       pub comparing : (n : ℕ) → Some n ≡ number_in index.blobs ids.blob → Compares a bytes text ids.blob n
       comparing n given =
-          let first : blob_number a.entries ids.blob ≡ Some n = sym (known.indexed.blobs ids.blob) ∙ sym given in
+          let first : blob_number a.config.form a.entries ids.blob ≡ Some n = sym (known.indexed.blobs ids.blob) ∙ sym given in
           record {
             first = first;
-            known = ap (form_known a) is ∙ ap (keeps_known a.entries) takes ∙ ap is_some (at_text (blob_number a.entries) ∙ first);
+            known = ap (form_known a) is ∙ ap (keeps_known a.config.form a.entries) takes ∙ ap is_some (at_text (blob_number a.config.form a.entries) ∙ first);
             decides = λ agree kept kept_is moment.
                 chosen source (Take text) is (sym takes) moment
                 ∙ ap (delivered_kept a text moment)
-                (collision-first a.entries text kept n agree (at_text (blob_number a.entries) ∙ first) (at_text (blob_text a.entries) ∙ kept_is));
+                (collision-first a.config.form a.entries text kept n agree (at_text (blob_number a.config.form a.entries) ∙ first) (at_text (blob_text a.config.form a.entries) ∙ kept_is));
           }
 
       -- Without such an entry only want of numbers can refuse it.
       pub coming : None ≡ number_in index.blobs ids.blob → (moment : ℕ) → delivered a bytes moment ≡ delivered_new a text moment
       coming given moment =
           chosen source (Take text) is (sym takes) moment
-          ∙ ap (delivered_kept a text moment) (collision-alone a.entries text (at_text (blob_number a.entries) ∙ sym (known.indexed.blobs ids.blob) ∙ sym given))
+          ∙ ap (delivered_kept a text moment) (collision-alone a.config.form a.entries text (at_text (blob_number a.config.form a.entries) ∙ sym (known.indexed.blobs ids.blob) ∙ sym given))
 
 -- The number that is left decides.
-module _ (a : Archive) (config : Config) (next : ℕ) (bytes text : List ℕ) (ids : TextIds) (config_is : a.config ≡ config) (next_is : a.next ≡ next) (comes : (moment : ℕ) → delivered a bytes moment ≡ delivered_new a text moment) (ids_are : ids ≡ text_ids_of form.Sha1 text) where
+module _ (a : Archive) (config : Config) (next : ℕ) (bytes text : List ℕ) (ids : TextIds) (config_is : a.config ≡ config) (next_is : a.next ≡ next) (comes : (moment : ℕ) → delivered a bytes moment ≡ delivered_new a text moment) (ids_are : ids ≡ text_ids_of config.form text) where
   test_of : nat_lt a.config.max a.next ≡ nat_lt config.max next
   test_of = ap (λ (c : Config). nat_lt c.max a.next) config_is ∙ ap (nat_lt config.max) next_is
 
   numbered : (t : Bool) → nat_lt config.max next ≡ t → (moment : ℕ)
-      → delivered a bytes moment ≡ (if t then refused a (answer.Full a.config.max) else record { archive = with_entry a (new_epoch a) text moment; answer = answer.Ok a.next (blob_id_of form.Sha1 text) })
+      → delivered a bytes moment ≡ (if t then refused a (answer.Full a.config.max) else record { archive = with_entry a (new_epoch a) text moment; answer = answer.Ok a.next (blob_id_of a.config.form text) })
   numbered t test moment =
       comes moment
-      ∙ ap (λ (u : Bool). if u then refused a (answer.Full a.config.max) else record { archive = with_entry a (new_epoch a) text moment; answer = answer.Ok a.next (blob_id_of form.Sha1 text) }) (test_of ∙ test)
+      ∙ ap (λ (u : Bool). if u then refused a (answer.Full a.config.max) else record { archive = with_entry a (new_epoch a) text moment; answer = answer.Ok a.next (blob_id_of a.config.form text) }) (test_of ∙ test)
 
   -- Where a number is left the text is kept.
   pub kept : next ≤ config.max → (moment : ℕ) → delivered a bytes moment ≡ record { archive = with_entry a (new_epoch a) text moment; answer = answer.Ok next ids.blob }
   kept room moment =
       let test : nat_lt config.max next ≡ false = grind (arith, nat_tests, room) in
       numbered false test moment
-      ∙ (ap (λ (n : ℕ). record { archive = with_entry a (new_epoch a) text moment; answer = answer.Ok n (blob_id_of form.Sha1 text) }) next_is
+      ∙ (ap (λ (n : ℕ). record { archive = with_entry a (new_epoch a) text moment; answer = answer.Ok n (blob_id_of a.config.form text) }) next_is
+      ∙ ap (λ (c : Config). record { archive = with_entry a (new_epoch a) text moment; answer = answer.Ok next (blob_id_of c.form text) }) config_is
       ∙ ap (λ (i : TextIds). record { archive = with_entry a (new_epoch a) text moment; answer = answer.Ok next i.blob }) (sym ids_are))
 
 -- A text that was compared: it is the same, or it collides.
@@ -109,8 +110,8 @@ last-formed (Refuse (answer.Damaged file at)) last = absurd last
 last-formed (Refuse answer.NoMemory) last = absurd last
 
 -- What a text is known by.
-pub known-by : (text spelled content : List ℕ) (blob : ObjectId) → blob ≡ blob_id_of form.Sha1 spelled → spelled ≡ text → content ≡ content_id_of text → let ids : TextIds = record { blob = blob; content = content } in ids ≡ text_ids_of form.Sha1 text
-known-by text spelled content blob blob_is spelled_is content_is = rw (blob_is ∙ ap (blob_id_of form.Sha1) spelled_is, content_is) refl
+pub known-by : (form : Form) (text spelled content : List ℕ) (blob : ObjectId) → blob ≡ blob_id_of form spelled → spelled ≡ text → content ≡ content_id_of text → let ids : TextIds = record { blob = blob; content = content } in ids ≡ text_ids_of form text
+known-by form text spelled content blob blob_is spelled_is content_is = rw (blob_is ∙ ap (blob_id_of form) spelled_is, content_is) refl
 
 -- What is known of an archive is known by its own next number.
 pub known-anew : (config : Config) (index : Index) (next : ℕ) (a : Archive) → IsKnownBy config index next a → IsKnownBy config index a.next a

@@ -6,6 +6,7 @@ use Rattle.std.specs.Cmp.Lexicographic.{slice_cmp}
 use Rattle.std.specs.BTreeMap.{BTreeMap, get_by}
 use Rattle.std.specs.Global.{Vec}
 use Rattle.arch_base.specs.Ids.{id_cmp, id_eq}
+use Rattle.arch_base.specs.declared.ids.Form.{Form}
 use Rattle.arch_base.specs.declared.ids.ObjectId.{ObjectId}
 use Rattle.mail_reader.specs.Content.{content_id_of}
 use Rattle.arch_model.specs.Archives.{Entry, live, owner, blob_number}
@@ -26,12 +27,12 @@ owner_in owners id = get_by (λ (k : Vec ℕ). slice_cmp nat_cmp id k.items) own
 abbrev pub number_in : BTreeMap ObjectId ℕ → ObjectId → Option ℕ
 number_in blobs blob = get_by (id_cmp blob) blobs
 
--- The index has the live entries by their own ids, and by each blob id the number of the first entry
--- that has it, live or not.
-pub record IsArchiveIndex (entries : List Entry) (index : Index) : Type 0 where
+-- The index has the live entries by their own ids, and by each blob id of a form the number of the
+-- first entry that has it, live or not.
+pub record IsArchiveIndex (form : Form) (entries : List Entry) (index : Index) : Type 0 where
   pub owners : (id : List ℕ)
       → owner_in index.owners id ≡ option_map owner_of (owner (live entries) id)
-  pub blobs : (blob : ObjectId) → number_in index.blobs blob ≡ blob_number entries blob
+  pub blobs : (blob : ObjectId) → number_in index.blobs blob ≡ blob_number form entries blob
 
 -- The first of two options that is Some.
 abbrev pub first_found : {X : Type 0} → Option X → Option X → Option X

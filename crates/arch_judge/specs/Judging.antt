@@ -3,7 +3,6 @@ use Rattle.std.specs.Prelude.{◌≡◌, ◌≤◌, ℕ, true, false, List, Opti
 use Rattle.std.specs.Str.{bytes_eq}
 use Rattle.arch_base.specs.declared.config.Config.{Config}
 use Rattle.arch_base.specs.declared.ids.ObjectId.{ObjectId}
-use Rattle.arch_base.specs.declared.ids.Form.TheVariants as form
 use Rattle.mail_reader.specs.StorageTexts.{IsStorageText}
 use Rattle.mail_reader.specs.Stored.{stored}
 use Rattle.mail_reader.specs.Ids.{own_id}
@@ -25,11 +24,12 @@ use Rattle.arch_judge.specs.declared.judging.Verdict.TheVariants.{Take, Refuse}
 use Rattle.arch_judge.specs.declared.judging.Judgement.{Judgement}
 use Rattle.arch_judge.specs.declared.judging.Judgement.TheVariants.{Final, Compare}
 
--- An archive has these settings and this next number, and the index is its index.
+-- An archive has these settings and this next number, and the index is its index, by the form of its
+-- blob ids.
 pub record IsKnownBy (config : Config) (index : Index) (next : ℕ) (a : Archive) : Type 0 where
   pub config_is : a.config ≡ config
   pub next_is : a.next ≡ next
-  pub indexed : IsArchiveIndex a.entries index
+  pub indexed : IsArchiveIndex a.config.form a.entries index
 
 -- A refusal is that of the definition, at each moment. `NoMemory` may come at any time, and an
 -- answer that isn't for a delivery never comes.
@@ -49,10 +49,10 @@ unless_same text kept number = if bytes_eq text kept then None else Some number
 -- A number is that of the first entry with a blob id, which is that of the text that the delivery would
 -- keep, and the text of that entry decides the delivery.
 pub record Compares (a : Archive) (bytes text : List ℕ) (blob : ObjectId) (number : ℕ) : Type 0 where
-  pub first : blob_number a.entries blob ≡ Some number
+  pub first : blob_number a.config.form a.entries blob ≡ Some number
   pub known : form_known a (stored bytes) ≡ true
-  pub decides : BlobsAgree a.entries → (kept : List ℕ) → blob_text a.entries blob ≡ Some kept
-      → (moment : ℕ)
+  pub decides : BlobsAgree a.config.form a.entries → (kept : List ℕ)
+      → blob_text a.config.form a.entries blob ≡ Some kept → (moment : ℕ)
       → delivered a bytes moment ≡ delivered_kept a text moment (unless_same text kept number)
 
 -- The verdict is what the definition says of the delivery, at each moment.
@@ -66,12 +66,12 @@ abbrev pub JudgesOrCompares : Archive → List ℕ → Judgement → Type 0
 JudgesOrCompares a bytes (Final verdict) = Judges a bytes verdict
 JudgesOrCompares a bytes (Compare text ids number) = Compares a bytes text ids.blob number
 
--- The text may come: the archive is not a mirror, the text is a storage text, these are its ids, and
--- no live message has its own id.
+-- The text may come: the archive is not a mirror, the text is a storage text, these are its ids in the
+-- form of the settings, and no live message has its own id.
 pub record MayCome (config : Config) (index : Index) (text : List ℕ) (ids : TextIds) : Type 0 where
   pub writable : config.mirror ≡ false
   pub storage : IsStorageText text
-  pub ids_are : ids ≡ text_ids_of form.Sha1 text
+  pub ids_are : ids ≡ text_ids_of config.form text
   pub new_id : (id : List ℕ) → own_id text ≡ Some id → owner_in index.owners id ≡ None
 
 -- The text may be kept: it may come, and the archive has a number left.

@@ -1,7 +1,6 @@
 //! Decides what a delivery does, before anything is kept. Each kind of archive uses it.
 //! Allocates.
 ghost use Rattle.std.specs.Prelude.{◌≡◌, List, ℕ, Ok, IfOk, false, length};
-ghost use Rattle.arch_base.specs.declared.ids.Form.TheVariants as form;
 ghost use Rattle.mail_reader.specs.Content.{content_id_of};
 ghost use Rattle.mail_reader.specs.Stored.{stored as stored_of};
 ghost use Rattle.mail_commits.specs.Ids.{text_ids_of};
@@ -148,6 +147,7 @@ fn choose_made(
 {
     law_of_taken_texts();
     let name = config.name.as_slice();
+    // Made ids have SHA-1 in each form.
     let hex = hex_of(&object_id(text, Form::Sha1));
     let digits = hex.as_slice();
     let last = index.len();
@@ -168,14 +168,14 @@ fn judge_new(config: &Config, index: &Index, next: u32, text: Bytes, content: [u
     requires writable { config.now.mirror ≡ false }
     requires new { IsNewText index.now text }
     requires content { content ≡ content_id_of text }
-    ensures judged { (a : Archive) (bytes form : List ℕ) → IsKnownBy config.now index.now next a
-        → stored_of bytes ≡ Ok form → choice_of a form ≡ Take text
+    ensures judged { (a : Archive) (bytes source : List ℕ) → IsKnownBy config.now index.now next a
+        → stored_of bytes ≡ Ok source → choice_of a source ≡ Take text
         → JudgesOrCompares a bytes result }
     ensures taken { MayTakeOrCompare config.now index.now next result }
     ensures formed { RefusesFormed result }
 {
     let ids = TextIds {
-        blob: blob_id(text.as_slice(), Form::Sha1),
+        blob: blob_id(text.as_slice(), config.form),
         content,
     };
     match index.number(&ids.blob) {
@@ -186,7 +186,7 @@ fn judge_new(config: &Config, index: &Index, next: u32, text: Bytes, content: [u
 
 /// Decides what the delivery of a text does, if only want of numbers can refuse it.
 fn judge_room(config: &Config, next: u32, text: Bytes, ids: TextIds) -> Verdict
-    requires ids { ids ≡ text_ids_of form.Sha1 text }
+    requires ids { ids ≡ text_ids_of config.now.form text }
     ensures judged { (a : Archive) (bytes : List ℕ) → a.config ≡ config.now → a.next ≡ next
         → ((moment : ℕ) → delivered a bytes moment ≡ delivered_new a text moment)
         → Judges a bytes result }
@@ -214,7 +214,7 @@ pub fn compared(
     number: u32,
     kept: &[u8],
 ) -> Verdict
-    requires ids { ids ≡ text_ids_of form.Sha1 text }
+    requires ids { ids ≡ text_ids_of config.now.form text }
     // The number of the text that was kept is the one of a collision.
     ensures judged { (a : Archive) (bytes : List ℕ) → a.config ≡ config.now → a.next ≡ next
         → ((moment : ℕ) → delivered a bytes moment

@@ -19,7 +19,7 @@ use Rattle.git_objects.specs.declared.entry_kind.EntryKind.{EntryKind}
 use Rattle.git_objects.specs.declared.entry_kind.EntryKind.TheVariants.{Message, Deletion}
 use Rattle.mail_reader.specs.StorageTexts.{IsStorageText}
 use Rattle.arch_base.specs.Moments.{last_moment}
-use Rattle.arch_base.specs.declared.ids.Form.TheVariants as form
+use Rattle.arch_base.specs.declared.ids.Form.{Form}
 use Rattle.arch_model.specs.declared.command.Command.TheVariants.{Deliver, Remove, Purge, Edit}
 use Rattle.arch_model.proofs.Deliveries.{Comes, Refused, Accepted, comes, Ends, Still, Ended, ends}
 use Rattle.arch_model.proofs.ValidArchives.{all_weaker, not_before, Agrees, archive_grows, archive_ends}
@@ -62,13 +62,13 @@ same_test true true clash is = refl
 same_test true false clash is = absurd (cc)
 same_test false t clash is = absurd (cc)
 
-pub agrees-alone : (es : List Entry) (text : List ℕ) → collision es text ≡ None → Agrees text es
-agrees-alone [] text none = tt
-agrees-alone (e ∷ es) text none =
-    let blob = blob_id_of form.Sha1 text in
-    let other = blob_id_of form.Sha1 e.text in
-    let both = number_free e.number (collision es text) (id_eq blob other && not (bytes_eq text e.text)) none in
-    (λ same. (bytes_eq-Decides text e.text).0 (same_test (id_eq blob other) (bytes_eq text e.text) both.0 ((id_eq-Decides blob other).1 same)), agrees-alone es text both.1)
+pub agrees-alone : (form : Form) (es : List Entry) (text : List ℕ) → collision form es text ≡ None → Agrees form text es
+agrees-alone form [] text none = tt
+agrees-alone form (e ∷ es) text none =
+    let blob = blob_id_of form text in
+    let other = blob_id_of form e.text in
+    let both = number_free e.number (collision form es text) (id_eq blob other && not (bytes_eq text e.text)) none in
+    (λ same. (bytes_eq-Decides text e.text).0 (same_test (id_eq blob other) (bytes_eq text e.text) both.0 ((id_eq-Decides blob other).1 same)), agrees-alone form es text both.1)
 
 -- The last epoch is one of the 64.
 last_small : (es : List Entry) → AllByRecursion IsEntry es → last_epoch es ≤ 63
@@ -76,7 +76,7 @@ last_small [] all = omega arith
 last_small (e ∷ es) all = let one : e.epoch ≤ 63 = all.0.epoch in let rest = last_small es all.1 in grind (arith, nat_tests, one, rest)
 
 new_small : (a : Archive) → AllByRecursion IsEntry a.entries → new_epoch a ≤ 63
-new_small a all = by (last_epoch a.entries) (nat_lt (length (epoch_bytes (in_epoch a.entries (last_epoch a.entries)))) a.config.limit) (last_small a.entries all) where
+new_small a all = by (last_epoch a.entries) (nat_lt (length (epoch_bytes a.config.form (in_epoch a.entries (last_epoch a.entries)))) a.config.limit) (last_small a.entries all) where
   by : (last : ℕ) (t : Bool) → last ≤ 63 → (if last == 63 || t then last else last + 1) ≤ 63
   by last true small = grind (arith, nat_tests, small)
   by last false small = grind (arith, nat_tests, small)
@@ -88,14 +88,14 @@ purged_by a number d valid (Dropped text is) = valid_without a text valid
 module _ (law : TakenAreStorage) where
   valid_by : (a : Archive) (bytes : List ℕ) (moment : ℕ) (d : Done) → moment ≤ last_moment → IsArchive a → Comes a bytes moment d → IsArchive d.archive
   valid_by a bytes moment d in_time valid (Refused answer other) = valid
-  valid_by a bytes moment d in_time valid (Accepted form kept is takes alone room) =
-      let t = taken law (live a.entries) a.config.name bytes form (few_entries a valid) valid.name is kept (own_id form) refl takes in
+  valid_by a bytes moment d in_time valid (Accepted text kept is takes alone room) =
+      let t = taken law (live a.entries) a.config.name bytes text (few_entries a valid) valid.name is kept (own_id text) refl takes in
       let id = t.free.0 in
       let left : a.next ≤ a.config.max = grind (arith, nat_tests, room) in
       let high = valid.config.max_high in
       archive_grows a (new_epoch a) kept moment valid (omega (arith, left, high))
       (record { text = t.storage; epoch = new_small a valid.entries; moment = in_time })
-      (not_before a) (apart_ids (live a.entries) kept id t.free.1 t.free.2) (agrees-alone a.entries kept alone)
+      (not_before a) (apart_ids (live a.entries) kept id t.free.1 t.free.2) (agrees-alone a.config.form a.entries kept alone)
 
   ended_by : (a : Archive) (number moment : ℕ) (d : Done) → moment ≤ last_moment → IsArchive a → Ends a number moment d → IsArchive d.archive
   ended_by a number moment d in_time valid (Still answer other) = valid
@@ -121,7 +121,7 @@ module _ (law : TakenAreStorage) where
 
 follows_by : (a : Archive) (bytes : List ℕ) (moment : ℕ) (d : Done) → Comes a bytes moment d → Follows a d.archive
 follows_by a bytes moment d (Refused answer other) = follows_itself a
-follows_by a bytes moment d (Accepted form kept is takes alone room) = follows_with_entry a (new_epoch a) kept moment
+follows_by a bytes moment d (Accepted text kept is takes alone room) = follows_with_entry a (new_epoch a) kept moment
 
 follows_ended : (a : Archive) (number moment : ℕ) (d : Done) → Ends a number moment d → Follows a d.archive
 follows_ended a number moment d (Still answer other) = follows_itself a

@@ -6,7 +6,6 @@ use Rattle.mail_reader.specs.Stored.{stored}
 use Rattle.mail_reader.specs.declared.storing.StoredRefusal.{StoredRefusal}
 use Rattle.mail_reader.specs.declared.storing.StoredRefusal.TheVariants as stored_refusal
 use Rattle.arch_base.specs.declared.ids.ObjectId.{ObjectId}
-use Rattle.arch_base.specs.declared.ids.Form.TheVariants as form
 use Rattle.git_objects.specs.Objects.{blob_id_of}
 use Rattle.arch_model.specs.Archives.{Entry, Archive, live, text_of, with_entry, with_deletion, message}
 use Rattle.arch_model.specs.Candidates.{choice_of}
@@ -21,22 +20,22 @@ use Rattle.arch_model.proofs.LiveEntries.{without, live-message, live-deletion, 
 -- The result of a delivery: a refusal that leaves the archive unchanged, or one more entry.
 pub data Comes (a : Archive) (bytes : List ℕ) (moment : ℕ) : Done → Type 0 where
   Refused : (answer : Answer) → ((number : ℕ) (id : ObjectId) → answer ≡ named.Ok number id → ⊥) → Comes a bytes moment (refused a answer)
-  Accepted : (text kept : List ℕ) → stored bytes ≡ Ok text → choice_of a text ≡ Take kept → collision a.entries kept ≡ None → nat_lt a.config.max a.next ≡ false → Comes a bytes moment (record { archive = with_entry a (new_epoch a) kept moment; answer = named.Ok a.next (blob_id_of form.Sha1 kept) })
+  Accepted : (text kept : List ℕ) → stored bytes ≡ Ok text → choice_of a text ≡ Take kept → collision a.config.form a.entries kept ≡ None → nat_lt a.config.max a.next ≡ false → Comes a bytes moment (record { archive = with_entry a (new_epoch a) kept moment; answer = named.Ok a.next (blob_id_of a.config.form kept) })
 
-comes_new : (a : Archive) (bytes text kept : List ℕ) (moment : ℕ) (t : Bool) → stored bytes ≡ Ok text → choice_of a text ≡ Take kept → collision a.entries kept ≡ None → nat_lt a.config.max a.next ≡ t
-    → Comes a bytes moment (if t then refused a (named.Full a.config.max) else record { archive = with_entry a (new_epoch a) kept moment; answer = named.Ok a.next (blob_id_of form.Sha1 kept) })
+comes_new : (a : Archive) (bytes text kept : List ℕ) (moment : ℕ) (t : Bool) → stored bytes ≡ Ok text → choice_of a text ≡ Take kept → collision a.config.form a.entries kept ≡ None → nat_lt a.config.max a.next ≡ t
+    → Comes a bytes moment (if t then refused a (named.Full a.config.max) else record { archive = with_entry a (new_epoch a) kept moment; answer = named.Ok a.next (blob_id_of a.config.form kept) })
 comes_new a bytes text kept moment true is takes alone room = Refused (named.Full a.config.max) (λ number id e. cc e)
 comes_new a bytes text kept moment false is takes alone room = Accepted text kept is takes alone room
 
-comes_kept : (a : Archive) (bytes text kept : List ℕ) (moment : ℕ) (clash : Option ℕ) → stored bytes ≡ Ok text → choice_of a text ≡ Take kept → collision a.entries kept ≡ clash → Comes a bytes moment (delivered_kept a kept moment clash)
+comes_kept : (a : Archive) (bytes text kept : List ℕ) (moment : ℕ) (clash : Option ℕ) → stored bytes ≡ Ok text → choice_of a text ≡ Take kept → collision a.config.form a.entries kept ≡ clash → Comes a bytes moment (delivered_kept a kept moment clash)
 comes_kept a bytes text kept moment (Some n) is takes alone = Refused (named.Collision n) (λ number id e. cc e)
 comes_kept a bytes text kept moment None is takes alone = comes_new a bytes text kept moment (nat_lt a.config.max a.next) is takes alone refl
 
 comes_choice : (a : Archive) (bytes text : List ℕ) (moment : ℕ) (choice : Choice) → stored bytes ≡ Ok text → choice_of a text ≡ choice → Comes a bytes moment (delivered_choice a moment choice)
 comes_choice a bytes text moment (Repeat n) is takes = Refused (named.Duplicate n) (λ number id e. cc e)
-comes_choice a bytes text moment (Take kept) is takes = comes_kept a bytes text kept moment (collision a.entries kept) is takes refl
+comes_choice a bytes text moment (Take kept) is takes = comes_kept a bytes text kept moment (collision a.config.form a.entries kept) is takes refl
 
-comes_form : (a : Archive) (bytes : List ℕ) (moment : ℕ) (form : Result (List ℕ) StoredRefusal) → stored bytes ≡ form → Comes a bytes moment (delivered_form a moment form)
+comes_form : (a : Archive) (bytes : List ℕ) (moment : ℕ) (source : Result (List ℕ) StoredRefusal) → stored bytes ≡ source → Comes a bytes moment (delivered_form a moment source)
 comes_form a bytes moment (Ok text) is = comes_choice a bytes text moment (choice_of a text) is refl
 comes_form a bytes moment (Err stored_refusal.NoFields) is = Refused named.NoFields (λ number id e. cc e)
 comes_form a bytes moment (Err (stored_refusal.TooLarge len)) is = Refused (named.TooLarge len) (λ number id e. cc e)
@@ -84,7 +83,7 @@ text_of-last (x ∷ es) e none = last_step x e es (x.number == e.number) refl (t
 -- The result of a removal: a refusal that leaves the archive unchanged, or one more deletion.
 pub data Ends (a : Archive) (number moment : ℕ) : Done → Type 0 where
   Still : (answer : Answer) → ((id : ObjectId) → answer ≡ named.Ok number id → ⊥) → Ends a number moment (refused a answer)
-  Ended : (text : List ℕ) → text_of (live a.entries) number ≡ Some text → Ends a number moment (record { archive = with_deletion a number (new_epoch a) text moment; answer = named.Ok number (blob_id_of form.Sha1 text) })
+  Ended : (text : List ℕ) → text_of (live a.entries) number ≡ Some text → Ends a number moment (record { archive = with_deletion a number (new_epoch a) text moment; answer = named.Ok number (blob_id_of a.config.form text) })
 
 ends_text : (a : Archive) (number moment : ℕ) (found : Option (List ℕ)) → text_of (live a.entries) number ≡ found → Ends a number moment (removed_text a number moment found)
 ends_text a number moment None is = Still (named.NotLive number) (λ id e. cc e)
@@ -99,7 +98,7 @@ ends a number moment = ends_mirror a number moment a.config.mirror
 
 keeps_by : (a : Archive) (bytes : List ℕ) (moment n : ℕ) (text : List ℕ) (d : Done) → Comes a bytes moment d → text_of (live a.entries) n ≡ Some text → text_of (live d.archive.entries) n ≡ Some text
 keeps_by a bytes moment n text d (Refused answer other) h = h
-keeps_by a bytes moment n text d (Accepted form kept is takes alone room) h =
+keeps_by a bytes moment n text d (Accepted source kept is takes alone room) h =
     subst (λ (l : List Entry). text_of l n ≡ Some text) (sym (live-message a.entries a.next (new_epoch a) kept moment)) (text_of-front (live a.entries) (message a.next (new_epoch a) kept moment ∷ []) n text h)
 
 pub keeps-numbers : KeepsNumbers
@@ -107,7 +106,7 @@ keeps-numbers a bytes moment n text h = keeps_by a bytes moment n text (delivere
 
 pub numbered_by : (a : Archive) (bytes : List ℕ) (moment : ℕ) (d : Done) → Comes a bytes moment d → 1 ≤ a.next → NumbersInRange a → (1 ≤ d.archive.next) × NumbersInRange d.archive
 numbered_by a bytes moment d (Refused answer other) some h = (some, h)
-numbered_by a bytes moment d (Accepted form kept is takes alone room) some h = (
+numbered_by a bytes moment d (Accepted source kept is takes alone room) some h = (
   omega arith,
   λ n text found. elim (text_of-either (live a.entries) (message a.next (new_epoch a) kept moment) n text (subst (λ (l : List Entry). text_of l n ≡ Some text) (live-message a.entries a.next (new_epoch a) kept moment) found)) [ inl before ↦ (let r = h n text before in (r.0, omega (arith, r.1))) | inr last ↦ (omega (arith, last), omega (arith, last)) ],
 )
@@ -137,9 +136,9 @@ takes-from-view a number moment = view_by a number moment (removed a number mome
 shows_by : (a : Archive) (bytes : List ℕ) (moment number : ℕ) (id : ObjectId) (d : Done) → Comes a bytes moment d → NumbersInRange a → d.answer ≡ named.Ok number id
     → (text : List ℕ) × (kept : List ℕ) × (stored bytes ≡ Ok text) × (choice_of a text ≡ Take kept) × (text_of (live d.archive.entries) number ≡ Some kept)
 shows_by a bytes moment number id d (Refused answer other) h e = absurd (other number id e)
-shows_by a bytes moment number id d (Accepted form kept is takes alone room) h e =
+shows_by a bytes moment number id d (Accepted source kept is takes alone room) h e =
     let same : a.next ≡ number = cc in (
-      form,
+      source,
       kept,
       is,
       takes,

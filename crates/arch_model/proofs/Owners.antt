@@ -10,7 +10,7 @@ use Rattle.arch_model.specs.Validity.{BlobsAgree}
 use Rattle.std.specs.List.{AllByRecursion}
 use Rattle.arch_base.specs.Ids.{id_eq}
 use Rattle.arch_base.proofs.IdOrder.{id_eq-Decides}
-use Rattle.arch_base.specs.declared.ids.Form.TheVariants as form
+use Rattle.arch_base.specs.declared.ids.Form.{Form}
 use Rattle.arch_model.specs.Delivery.{collision}
 
 -- A text equals itself.
@@ -29,10 +29,10 @@ alone_step : (b t : Bool) (number : ℕ) (own found : Option ℕ) → (if b then
 alone_step true t number own found none rest = absurd (cc)
 alone_step false t number own found none rest = rest none
 
-pub collision-alone : (es : List Entry) (text : List ℕ) → blob_number es (blob_id_of form.Sha1 text) ≡ None → collision es text ≡ None
-collision-alone [] text none = refl
-collision-alone (e ∷ es) text none =
-    alone_step (id_eq (blob_id_of form.Sha1 text) (blob_id_of form.Sha1 e.text)) (bytes_eq text e.text) e.number (collision es text) (blob_number es (blob_id_of form.Sha1 text)) none (collision-alone es text)
+pub collision-alone : (form : Form) (es : List Entry) (text : List ℕ) → blob_number form es (blob_id_of form text) ≡ None → collision form es text ≡ None
+collision-alone form [] text none = refl
+collision-alone form (e ∷ es) text none =
+    alone_step (id_eq (blob_id_of form text) (blob_id_of form e.text)) (bytes_eq text e.text) e.number (collision form es text) (blob_number form es (blob_id_of form text)) none (collision-alone form es text)
 
 -- Where each entry with the blob id of a text has that text, there is no collision.
 same_step : (b t : Bool) (number : ℕ) (own : Option ℕ) → (b ≡ true → t ≡ true) → own ≡ None → (if b && not t then Some number else own) ≡ None
@@ -40,11 +40,11 @@ same_step true true number own same rest = rest
 same_step true false number own same rest = absurd (let wrong : false ≡ true = same refl in cc)
 same_step false t number own same rest = rest
 
-none-clashes : (es : List Entry) (text kept : List ℕ) → text ≡ kept → AllByRecursion (λ (f : Entry). blob_id_of form.Sha1 f.text ≡ blob_id_of form.Sha1 kept → f.text ≡ kept) es → collision es text ≡ None
-none-clashes [] text kept is all = refl
-none-clashes (e ∷ es) text kept is all =
-    same_step (id_eq (blob_id_of form.Sha1 text) (blob_id_of form.Sha1 e.text)) (bytes_eq text e.text) e.number (collision es text)
-    (λ hit. (let same : blob_id_of form.Sha1 text ≡ blob_id_of form.Sha1 e.text = (id_eq-Decides (blob_id_of form.Sha1 text) (blob_id_of form.Sha1 e.text)).0 hit in bytes_eq-refl text e.text (is ∙ sym (all.0 (sym same ∙ ap (blob_id_of form.Sha1) is))))) (none-clashes es text kept is all.1)
+none-clashes : (form : Form) (es : List Entry) (text kept : List ℕ) → text ≡ kept → AllByRecursion (λ (f : Entry). blob_id_of form f.text ≡ blob_id_of form kept → f.text ≡ kept) es → collision form es text ≡ None
+none-clashes form [] text kept is all = refl
+none-clashes form (e ∷ es) text kept is all =
+    same_step (id_eq (blob_id_of form text) (blob_id_of form e.text)) (bytes_eq text e.text) e.number (collision form es text)
+    (λ hit. (let same : blob_id_of form text ≡ blob_id_of form e.text = (id_eq-Decides (blob_id_of form text) (blob_id_of form e.text)).0 hit in bytes_eq-refl text e.text (is ∙ sym (all.0 (sym same ∙ ap (blob_id_of form) is))))) (none-clashes form es text kept is all.1)
 
 -- The first entry with the blob id of a text decides: it has the text, or there is a collision with
 -- it.
@@ -58,8 +58,8 @@ first_step true false number n own found kept text other more test is kept_is no
     is ∙ sym (ap (λ (u : Bool). if u then None else Some n) (ap (bytes_eq text) (sym same) ∙ test))
 first_step false t number n own found kept text other more test is kept_is none rest = rest is kept_is
 
-pub collision-first : (es : List Entry) (text kept : List ℕ) (n : ℕ) → BlobsAgree es → blob_number es (blob_id_of form.Sha1 text) ≡ Some n → blob_text es (blob_id_of form.Sha1 text) ≡ Some kept → collision es text ≡ (if bytes_eq text kept then None else Some n)
-collision-first [] text kept n agree is kept_is = absurd (cc)
-collision-first (e ∷ es) text kept n agree is kept_is =
-    first_step (id_eq (blob_id_of form.Sha1 text) (blob_id_of form.Sha1 e.text)) (bytes_eq text e.text) e.number n (collision es text) (blob_number es (blob_id_of form.Sha1 text)) kept text e.text (blob_text es (blob_id_of form.Sha1 text)) refl is kept_is
-    (λ hit same. none-clashes es text e.text ((bytes_eq-Decides text e.text).0 same) agree.0) (λ more kept_more. collision-first es text kept n agree.1 more kept_more)
+pub collision-first : (form : Form) (es : List Entry) (text kept : List ℕ) (n : ℕ) → BlobsAgree form es → blob_number form es (blob_id_of form text) ≡ Some n → blob_text form es (blob_id_of form text) ≡ Some kept → collision form es text ≡ (if bytes_eq text kept then None else Some n)
+collision-first form [] text kept n agree is kept_is = absurd (cc)
+collision-first form (e ∷ es) text kept n agree is kept_is =
+    first_step (id_eq (blob_id_of form text) (blob_id_of form e.text)) (bytes_eq text e.text) e.number n (collision form es text) (blob_number form es (blob_id_of form text)) kept text e.text (blob_text form es (blob_id_of form text)) refl is kept_is
+    (λ hit same. none-clashes form es text e.text ((bytes_eq-Decides text e.text).0 same) agree.0) (λ more kept_more. collision-first form es text kept n agree.1 more kept_more)

@@ -5,7 +5,7 @@ use Rattle.std.specs.Str.{bytes_eq}
 use Rattle.std.proofs.Common.{◌⊎◌, inl, inr, ◌∙◌, sym, ap, subst, arith, append-nil, append_assoc}
 use Rattle.std.proofs.lemmas.Bool.Decides.{nat_tests}
 use Rattle.std.proofs.lemmas.Slice.Eq.{bytes_eq-Decides}
-use Rattle.arch_base.specs.declared.ids.Form.TheVariants as form
+use Rattle.arch_base.specs.declared.ids.Form.{Form}
 use Rattle.git_objects.specs.Objects.{blob_id_of}
 use Rattle.git_objects.specs.declared.entry_kind.EntryKind.{EntryKind}
 use Rattle.git_objects.specs.declared.entry_kind.EntryKind.TheVariants.{Message, Deletion}
@@ -73,13 +73,13 @@ module _ (keep : List ℕ → Bool) where
   kept_ids [] differ = tt
   kept_ids (e ∷ es) differ = ids_step (keep e.text) e (kept es) (kept_all (λ (f : Entry). own_id f.text ≢ own_id e.text) es differ.0) (kept_ids es differ.1)
 
-  blobs_step : (t : Bool) (e : Entry) (es : List Entry) → AllByRecursion (λ (f : Entry). blob_id_of form.Sha1 f.text ≡ blob_id_of form.Sha1 e.text → f.text ≡ e.text) es → BlobsAgree es → BlobsAgree (if t then e ∷ es else es)
-  blobs_step true e es agree rest = (agree, rest)
-  blobs_step false e es agree rest = rest
+  blobs_step : (form : Form) (t : Bool) (e : Entry) (es : List Entry) → AllByRecursion (λ (f : Entry). blob_id_of form f.text ≡ blob_id_of form e.text → f.text ≡ e.text) es → BlobsAgree form es → BlobsAgree form (if t then e ∷ es else es)
+  blobs_step form true e es agree rest = (agree, rest)
+  blobs_step form false e es agree rest = rest
 
-  pub kept_blobs : (es : List Entry) → BlobsAgree es → BlobsAgree (kept es)
-  kept_blobs [] agree = tt
-  kept_blobs (e ∷ es) agree = blobs_step (keep e.text) e (kept es) (kept_all (λ (f : Entry). blob_id_of form.Sha1 f.text ≡ blob_id_of form.Sha1 e.text → f.text ≡ e.text) es agree.0) (kept_blobs es agree.1)
+  pub kept_blobs : (form : Form) (es : List Entry) → BlobsAgree form es → BlobsAgree form (kept es)
+  kept_blobs form [] agree = tt
+  kept_blobs form (e ∷ es) agree = blobs_step form (keep e.text) e (kept es) (kept_all (λ (f : Entry). blob_id_of form f.text ≡ blob_id_of form e.text → f.text ≡ e.text) es agree.0) (kept_blobs form es agree.1)
 
   from_lower : (k : EntryKind) (low less n : ℕ) → less ≤ low → NumberIsFrom k low n → NumberIsFrom k less n
   from_lower Message low less n down from = omega (arith, down, from)
@@ -306,7 +306,7 @@ valid_without a text valid =
       order = kept_rise (other text) a.entries 1 0 1 0 (omega arith) (omega arith) valid.order;
       ends = places.ends;
       ids = places.ids;
-      blobs = kept_blobs (other text) a.entries valid.blobs;
+      blobs = kept_blobs (other text) a.config.form a.entries valid.blobs;
     }
 
 -- Texts that differ are told apart.

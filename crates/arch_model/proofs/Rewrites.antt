@@ -2,7 +2,6 @@
 use Rattle.std.proofs.Common.{◌≡◌, ◌<◌, ◌≤◌, ℕ, Bool, true, false, List, Option, Some, None, refl, sym, ap, ◌∙◌, if◌then◌else◌}
 use Rattle.mail_reader.specs.Stored.{stored}
 use Rattle.arch_base.specs.declared.ids.ObjectId.{ObjectId}
-use Rattle.arch_base.specs.declared.ids.Form.TheVariants as form
 use Rattle.git_objects.specs.Objects.{blob_id_of}
 use Rattle.arch_model.specs.Archives.{Entry, Archive, live, messages, text_of, without_entries}
 use Rattle.arch_model.specs.Delivery.{Done, refused, delivered, removed, purged_text, purged, is_accepted, unless_refused, is_form, edited_text, edited}
@@ -19,7 +18,7 @@ use Rattle.arch_model.proofs.Purging.{live_climbs, climbs_above, valid_without}
 -- The result of a purge: a refusal that leaves the archive unchanged, or the archive without a text.
 pub data Purges (a : Archive) (number : ℕ) : Done → Type 0 where
   Spared : (answer : Answer) → ((n : ℕ) (id : ObjectId) → answer ≡ named.Ok n id → ⊥) → Purges a number (refused a answer)
-  Dropped : (text : List ℕ) → text_of (messages a.entries) number ≡ Some text → Purges a number (record { archive = without_entries a text; answer = named.Ok number (blob_id_of form.Sha1 text) })
+  Dropped : (text : List ℕ) → text_of (messages a.entries) number ≡ Some text → Purges a number (record { archive = without_entries a text; answer = named.Ok number (blob_id_of a.config.form text) })
 
 purges_text : (a : Archive) (number : ℕ) (found : Option (List ℕ)) → text_of (messages a.entries) number ≡ found → Purges a number (purged_text a number found)
 purges_text a number None is = Spared (named.NoText number) (λ n id e. cc e)

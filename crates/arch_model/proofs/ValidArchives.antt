@@ -5,7 +5,7 @@ use Rattle.std.proofs.Common.{arith, inl, inr, sym, ap, subst, ◌∙◌}
 use Rattle.git_objects.specs.declared.entry_kind.EntryKind.{EntryKind}
 use Rattle.git_objects.specs.declared.entry_kind.EntryKind.TheVariants.{Message, Deletion}
 use Rattle.std.proofs.lemmas.Bool.Decides.{nat_tests}
-use Rattle.arch_base.specs.declared.ids.Form.TheVariants as form
+use Rattle.arch_base.specs.declared.ids.Form.{Form}
 use Rattle.git_objects.specs.Objects.{blob_id_of}
 use Rattle.mail_reader.specs.Ids.{own_id}
 use Rattle.arch_model.specs.Archives.{Entry, Archive, message, deletion, live, text_of, with_entry, with_deletion}
@@ -54,27 +54,27 @@ ids_more [] new differ free = (tt, tt)
 ids_more (e ∷ es) new differ free = (all_after (λ (f : Entry). own_id f.text ≢ own_id e.text) es new differ.0 free.0, ids_more es new differ.1 free.1)
 
 -- Each entry with the blob id of a text has the text.
-abbrev pub Agrees : List ℕ → List Entry → Type 0
-Agrees text es = AllByRecursion (λ (e : Entry). blob_id_of form.Sha1 text ≡ blob_id_of form.Sha1 e.text → text ≡ e.text) es
+abbrev pub Agrees : Form → List ℕ → List Entry → Type 0
+Agrees form text es = AllByRecursion (λ (e : Entry). blob_id_of form text ≡ blob_id_of form e.text → text ≡ e.text) es
 
 -- Each blob id still has one text.
-pub blobs_more : (es : List Entry) (new : Entry) → BlobsAgree es → Agrees new.text es → BlobsAgree (es ++ new ∷ [])
-blobs_more [] new agree same = (tt, tt)
-blobs_more (e ∷ es) new agree same = (all_after (λ (f : Entry). blob_id_of form.Sha1 f.text ≡ blob_id_of form.Sha1 e.text → f.text ≡ e.text) es new agree.0 same.0, blobs_more es new agree.1 same.1)
+pub blobs_more : (form : Form) (es : List Entry) (new : Entry) → BlobsAgree form es → Agrees form new.text es → BlobsAgree form (es ++ new ∷ [])
+blobs_more form [] new agree same = (tt, tt)
+blobs_more form (e ∷ es) new agree same = (all_after (λ (f : Entry). blob_id_of form f.text ≡ blob_id_of form e.text → f.text ≡ e.text) es new agree.0 same.0, blobs_more form es new agree.1 same.1)
 
 -- A text that is there agrees with all.
-pub agrees-has : (es : List Entry) (text : List ℕ) → BlobsAgree es → HasText text es → Agrees text es
-agrees-has [] text agree has = tt
-agrees-has (e ∷ es) text agree (inl is) = (
+pub agrees-has : (form : Form) (es : List Entry) (text : List ℕ) → BlobsAgree form es → HasText text es → Agrees form text es
+agrees-has form [] text agree has = tt
+agrees-has form (e ∷ es) text agree (inl is) = (
   λ same. sym is,
-  all_weaker (λ (f : Entry). blob_id_of form.Sha1 f.text ≡ blob_id_of form.Sha1 e.text → f.text ≡ e.text) (λ (f : Entry). blob_id_of form.Sha1 text ≡ blob_id_of form.Sha1 f.text → text ≡ f.text) es (λ f h same. sym is ∙ sym (h (sym same ∙ ap (blob_id_of form.Sha1) (sym is)))) agree.0,
+  all_weaker (λ (f : Entry). blob_id_of form f.text ≡ blob_id_of form e.text → f.text ≡ e.text) (λ (f : Entry). blob_id_of form text ≡ blob_id_of form f.text → text ≡ f.text) es (λ f h same. sym is ∙ sym (h (sym same ∙ ap (blob_id_of form) (sym is)))) agree.0,
 )
-agrees-has (e ∷ es) text agree (inr more) = (all-text (λ (t : List ℕ). blob_id_of form.Sha1 t ≡ blob_id_of form.Sha1 e.text → t ≡ e.text) es text agree.0 more, agrees-has es text agree.1 more)
+agrees-has form (e ∷ es) text agree (inr more) = (all-text (λ (t : List ℕ). blob_id_of form t ≡ blob_id_of form e.text → t ≡ e.text) es text agree.0 more, agrees-has form es text agree.1 more)
 
 -- An archive stays valid with one more message that has its next number, an epoch not before any
 -- other, an own id that no live entry has, and the text of each entry with its blob id.
 pub archive_grows : (a : Archive) (epoch : ℕ) (text : List ℕ) (moment : ℕ) → IsArchive a → a.next < 2147483648 → IsEntry (message a.next epoch text moment)
-    → AllByRecursion (λ (e : Entry). e.epoch ≤ epoch) a.entries → AllByRecursion (λ (e : Entry). own_id text ≢ own_id e.text) (live a.entries) → Agrees text a.entries
+    → AllByRecursion (λ (e : Entry). e.epoch ≤ epoch) a.entries → AllByRecursion (λ (e : Entry). own_id text ≢ own_id e.text) (live a.entries) → Agrees a.config.form text a.entries
     → IsArchive (with_entry a epoch text moment)
 archive_grows a epoch text moment valid room entry older id same =
     let new : Entry = message a.next epoch text moment in
@@ -89,7 +89,7 @@ archive_grows a epoch text moment valid room entry older id same =
       order = rise_more 1 0 a.entries new valid.order least (omega arith) (all_weaker (λ (e : Entry). e.number < a.next) (λ (e : Entry). e.number + 1 ≤ a.next) a.entries (λ e less. omega (arith, less)) valid.below) older;
       ends = place-push (λ (before : List Entry) (e : Entry). EndsLive e.kind before e) [] a.entries new valid.ends tt;
       ids = place-push LiveDiffer [] a.entries new valid.ids (subst (λ (l : List Entry). IdsDiffer l) (sym (live-message a.entries a.next epoch text moment)) (ids_more (live a.entries) new (ids-now a.entries valid.ids) id));
-      blobs = blobs_more a.entries new valid.blobs same;
+      blobs = blobs_more a.config.form a.entries new valid.blobs same;
     }
 
 none_asked : (n : ℕ) (es : List Entry) → AllByRecursion (λ (e : Entry). NumberIsFrom Deletion (e.number + 1) n) es
@@ -112,5 +112,5 @@ archive_ends a number epoch text moment valid less entry older is =
       order = rise_more 1 0 a.entries new valid.order tt (omega arith) (none_asked number a.entries) older;
       ends = place-push (λ (before : List Entry) (e : Entry). EndsLive e.kind before e) [] a.entries new valid.ends is;
       ids = place-push LiveDiffer [] a.entries new valid.ids (subst (λ (l : List Entry). IdsDiffer l) (sym (live-deletion a.entries number epoch text moment)) (ids-without number (live a.entries) (ids-now a.entries valid.ids)));
-      blobs = blobs_more a.entries new valid.blobs (agrees-has a.entries text valid.blobs (live-has a.entries text (found-has (live a.entries) number text is)));
+      blobs = blobs_more a.config.form a.entries new valid.blobs (agrees-has a.config.form a.entries text valid.blobs (live-has a.entries text (found-has (live a.entries) number text is)));
     }

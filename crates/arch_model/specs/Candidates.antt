@@ -22,7 +22,7 @@ unfoldable pub id_with : List ℕ → ℕ → List ℕ → List ℕ
 id_with digits k name = 60 ∷ (made_inside digits k name ++ 62 ∷ [])
 
 -- The made id of a text and a count in an archive with a name. Its digits are the text's SHA-1 in
--- lower case.
+-- lower case, in an archive of each form.
 abbrev pub made_id : List ℕ → List ℕ → ℕ → List ℕ
 made_id name text k = id_with (encode_lower (sha1 text)) k name
 

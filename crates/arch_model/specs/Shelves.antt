@@ -27,7 +27,8 @@ is_between low high e = nat_le low e.number && nat_le e.number high
 abbrev pub live_between : List Entry → ℕ → ℕ → ℕ
 live_between entries low high = length (filter (is_between low high) entries)
 
--- An entry after others, without its text, with ids of a form. The parent of its commit is the last commit of its epoch.
+-- An entry after others, without its text, with ids of a form. The parent of its commit is the last
+-- commit of its epoch.
 abbrev pub line_after : Form → List Entry → Entry → EntryLine
 line_after form before e = record {
   kind = e.kind;
@@ -48,18 +49,19 @@ lines_after form before (e ∷ es) = line_after form before e ∷ lines_after fo
 abbrev pub line_at : Form → List Entry → ℕ → Option EntryLine
 line_at form entries index = slice_get (lines_after form [] entries) index
 
--- The text of the first entry with a blob id of a form, if there is one. All entries of a valid archive that
--- have the blob id have this text.
+-- The text of the first entry with a blob id of a form, if there is one. All entries of a valid
+-- archive that have the blob id have this text.
 abbrev pub blob_text : Form → List Entry → ObjectId → Option (List ℕ)
 blob_text form [] blob = None
 blob_text form (e ∷ es) blob =
     if id_eq blob (blob_id_of form e.text) then Some e.text else blob_text form es blob
 
--- The result of reading a text by its blob id: the text is appended, or no entry has the blob id. No
--- damage is found.
-abbrev pub GivesBlobIn : Form → List Entry → ObjectId → List ℕ → List ℕ → Result Bool TextRefusal → Type 0
-GivesBlobIn form entries blob old new (Ok true) = (text : List ℕ) × (blob_text form entries blob ≡ Some text)
-    × (new ≡ old ++ text)
+-- The result of reading a text by its blob id of a form: the text is appended, or no entry has the
+-- blob id. No damage is found.
+abbrev pub GivesBlobIn : Form → List Entry → ObjectId → List ℕ → List ℕ → Result Bool TextRefusal
+    → Type 0
+GivesBlobIn form entries blob old new (Ok true) = (text : List ℕ)
+    × (blob_text form entries blob ≡ Some text) × (new ≡ old ++ text)
 GivesBlobIn form entries blob old new (Ok false) = blob_text form entries blob ≡ None
 GivesBlobIn form entries blob old new (Err (refusal.Damaged named found)) = ⊥
 GivesBlobIn form entries blob old new (Err refusal.DiskFault) = Unit {0}

@@ -64,8 +64,7 @@ LiveDiffer before e = IdsDiffer (live (before ++ e ∷ []))
 
 -- The archive is valid: its settings are in their ranges, its entries are in order, the numbers of
 -- messages are at least 1 and below the next one, each deletion ends a live message, the own ids of
--- live messages differ at each place, and each blob id of its form has one
--- text.
+-- live messages differ at each place, and each blob id of its form has one text.
 pub record IsArchive (a : Archive) : Type 0 where
   pub name : IsArchiveName a.config.name
   pub config : IsConfig a.config

@@ -8,7 +8,8 @@ use Rattle.arch_model.specs.declared.text_refusal.TextRefusal.{TextRefusal}
 use Rattle.arch_model.specs.declared.text_refusal.TextRefusal.TheVariants as refusal
 
 -- The result of reading the text of an entry with this line: a text is appended that has the blob id
--- of the line, in the form of that id; or bytes with another id were found. No refusal changes the bytes.
+-- of the line, in the form of that id; or bytes with another id were found. No refusal changes the
+-- bytes.
 abbrev pub GivesLine : EntryLine → List ℕ → List ℕ → Result Unit TextRefusal → Type 0
 GivesLine line old new (Ok _) = (text : List ℕ) × (blob_id_of (form_of line.blob) text ≡ line.blob)
     × (new ≡ old ++ text)

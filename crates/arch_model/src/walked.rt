@@ -35,7 +35,8 @@ pub trait Walked {
     /// Returns the entry at an index, from 0, without its text, or `None` if there are not so many.
     fn entry(&self, index: u64) -> Option<EntryLine>
         ensures line { result ≡ slice_get (lines self.now) index }
-        ensures archive { (a : Archive) → holds self.now a → result ≡ line_at a.config.form a.entries index };
+        ensures archive { (a : Archive) → holds self.now a
+            → result ≡ line_at a.config.form a.entries index };
 
     /// Appends the text of the entry at an index. Reads the disk at most once.
     ///

@@ -24,8 +24,8 @@ use mail_reader::{body, first_value, flat, own_id, refs_of};
 use mime_words::decode;
 use std::alloc::Global;
 
-/// Returns the row of a storage text with this number and these ids, in a form or the other, which
-/// arrived at this moment, in seconds since 1970 UTC.
+/// Returns the row of a storage text with this number and these ids, which arrived at this moment, in
+/// seconds since 1970 UTC. The ids may be of any form.
 ///
 /// `NoMemory` if an allocation fails.
 pub fn row_of(
