@@ -6,7 +6,7 @@ use Rattle.arch_base.specs.declared.config.Config.{Config}
 use Rattle.arch_base.specs.Ids.{id_eq}
 use Rattle.arch_base.specs.declared.ids.ObjectId.{ObjectId}
 use Rattle.arch_base.proofs.IdOrder.{id_eq-Decides}
-use Rattle.arch_base.specs.declared.ids.Form.TheVariants as form
+use Rattle.arch_base.specs.declared.ids.Form.{Form}
 use Rattle.git_objects.specs.Objects.{blob_id_of}
 use Rattle.git_objects.specs.declared.entry_kind.EntryKind.{EntryKind}
 use Rattle.git_objects.specs.declared.entry_kind.EntryKind.TheVariants.{Message, Deletion}
@@ -29,12 +29,12 @@ clash_step true true n rest same none = none
 clash_step true false n rest same none = absurd (let wrong : false ≡ true = same refl in cc)
 clash_step false t n rest same none = none
 
-pub none_collides : (es : List Entry) (text : List ℕ) → Agrees text es → collision es text ≡ None
-none_collides [] text agrees = refl
-none_collides (e ∷ es) text agrees =
-    let blob = blob_id_of form.Sha1 text in
-    let own = blob_id_of form.Sha1 e.text in
-    clash_step (id_eq blob own) (bytes_eq text e.text) e.number (collision es text) (λ hit. (bytes_eq-Decides text e.text).1 (agrees.0 ((id_eq-Decides blob own).0 hit))) (none_collides es text agrees.1)
+pub none_collides : (form : Form) (es : List Entry) (text : List ℕ) → Agrees form text es → collision form es text ≡ None
+none_collides form [] text agrees = refl
+none_collides form (e ∷ es) text agrees =
+    let blob = blob_id_of form text in
+    let own = blob_id_of form e.text in
+    clash_step (id_eq blob own) (bytes_eq text e.text) e.number (collision form es text) (λ hit. (bytes_eq-Decides text e.text).1 (agrees.0 ((id_eq-Decides blob own).0 hit))) (none_collides form es text agrees.1)
 
 -- An entry may be appended to an archive, which gives another one, and the end after it is this.
 pub record Appends (a : Archive) (e : Entry) (commit : ObjectId) (next : End) (wanted : Archive) : Type 0 where
@@ -43,14 +43,14 @@ pub record Appends (a : Archive) (e : Entry) (commit : ObjectId) (next : End) (w
   pub gives : appended_as a e ≡ wanted
 
 module _ (config : Config) (ks : List Kept) (places : List (Option KeptPlace)) (index : Index) (end_ : End) (kept : IsKept config ks places index end_) where
-  begin : NewEnd config.limit (entries_of ks) (new_epoch (archive_of config ks places)) (end_for_new config.limit end_)
+  begin : NewEnd config.form config.limit (entries_of ks) (new_epoch (archive_of config ks places)) (end_for_new config.limit end_)
   begin = IsEpochEnd-new (archive_of config ks places) end_ kept.ends kept.last
 
-  module _ (next : End) (kind : EntryKind) (text : List ℕ) (moment : ℕ) (next_is : next ≡ end_after (end_for_new config.limit end_) kind text moment) where
+  module _ (next : End) (kind : EntryKind) (text : List ℕ) (moment : ℕ) (next_is : next ≡ end_after config.form (end_for_new config.limit end_) kind text moment) where
     at_epoch : next.epoch ≡ new_epoch (archive_of config ks places)
     at_epoch = ap (λ (e : End). e.epoch) next_is ∙ begin.1
 
-    at_begin : NewEnd config.limit (entries_of ks) next.epoch (end_for_new config.limit end_)
+    at_begin : NewEnd config.form config.limit (entries_of ks) next.epoch (end_for_new config.limit end_)
     at_begin = (begin.0, begin.1 ∙ sym at_epoch, begin.2)
 
     low : last_epoch (entries_of ks) ≤ next.epoch
@@ -60,7 +60,7 @@ module _ (config : Config) (ks : List Kept) (places : List (Option KeptPlace)) (
     small = let high : (end_for_new config.limit end_).epoch ≤ 63 = begin.0.small in let same : (end_for_new config.limit end_).epoch ≡ next.epoch = at_begin.1 in omega (arith, high, same)
 
   -- A new message, in the epoch for it.
-  message_here : (text : List ℕ) (moment : ℕ) (next : End) (commit : ObjectId) → IsFree (live (entries_of ks)) text → collision (entries_of ks) text ≡ None → length places + 1 ≤ config.max → next ≡ end_after (end_for_new config.limit end_) Message text moment → next.parent ≡ Some commit
+  message_here : (text : List ℕ) (moment : ℕ) (next : End) (commit : ObjectId) → IsFree (live (entries_of ks)) text → collision config.form (entries_of ks) text ≡ None → length places + 1 ≤ config.max → next ≡ end_after config.form (end_for_new config.limit end_) Message text moment → next.parent ≡ Some commit
       → Appends (archive_of config ks places) (message (length places + 1) next.epoch text moment) commit next (with_entry (archive_of config ks places) (new_epoch (archive_of config ks places)) text moment)
   message_here text moment next commit free alone room next_is commit_is = record {
     follows = record {
@@ -78,14 +78,14 @@ module _ (config : Config) (ks : List Kept) (places : List (Option KeptPlace)) (
   there n text shown = live-has (entries_of ks) text (found-has (live (entries_of ks)) n text shown)
 
   -- A new deletion.
-  deletion_here : (n : ℕ) (text : List ℕ) (moment : ℕ) (next : End) (commit : ObjectId) → text_of (live (entries_of ks)) n ≡ Some text → next ≡ end_after (end_for_new config.limit end_) Deletion text moment → next.parent ≡ Some commit
+  deletion_here : (n : ℕ) (text : List ℕ) (moment : ℕ) (next : End) (commit : ObjectId) → text_of (live (entries_of ks)) n ≡ Some text → next ≡ end_after config.form (end_for_new config.limit end_) Deletion text moment → next.parent ≡ Some commit
       → Appends (archive_of config ks places) (deletion n next.epoch text moment) commit next (with_deletion (archive_of config ks places) n (new_epoch (archive_of config ks places)) text moment)
   deletion_here n text moment next commit shown next_is commit_is = record {
     follows = record {
       epoch = low next Deletion text moment next_is;
       small = small next Deletion text moment next_is;
       named = has_id ks text kept.named (there n text shown);
-      alone = none_collides (entries_of ks) text (agrees-has (entries_of ks) text kept.blobs (there n text shown));
+      alone = none_collides config.form (entries_of ks) text (agrees-has config.form (entries_of ks) text kept.blobs (there n text shown));
       numbered = shown;
     };
     ends = end-after (archive_of config ks places) (deletion n next.epoch text moment) (end_for_new config.limit end_) next commit (at_begin next Deletion text moment next_is) next_is commit_is;
@@ -94,19 +94,19 @@ module _ (config : Config) (ks : List Kept) (places : List (Option KeptPlace)) (
 
 -- The same of an archive that these stand for.
 pub new-message : (config : Config) (ks : List Kept) (places : List (Option KeptPlace)) (index : Index) (end_ : End) (a : Archive) (text read : List ℕ) (moment number : ℕ) (next : End) (commit : ObjectId) → archive_of config ks places ≡ a → IsKept config ks places index end_
-    → IsFree (live a.entries) text → collision a.entries text ≡ None → a.next ≤ a.config.max → next ≡ end_after (end_for_new config.limit end_) Message read moment → read ≡ text → next.parent ≡ Some commit → number ≡ a.next
+    → IsFree (live a.entries) text → collision a.config.form a.entries text ≡ None → a.next ≤ a.config.max → next ≡ end_after config.form (end_for_new config.limit end_) Message read moment → read ≡ text → next.parent ≡ Some commit → number ≡ a.next
     → Appends a (message number next.epoch text moment) commit next (with_entry a (new_epoch a) text moment)
 new-message config ks places index end_ a text read moment number next commit is kept free alone room next_is read_is commit_is number_is =
-    let after : next ≡ end_after (end_for_new config.limit end_) Message text moment = next_is ∙ ap (λ (t : List ℕ). end_after (end_for_new config.limit end_) Message t moment) read_is in
+    let after : next ≡ end_after config.form (end_for_new config.limit end_) Message text moment = next_is ∙ ap (λ (t : List ℕ). end_after config.form (end_for_new config.limit end_) Message t moment) read_is in
     subst (λ (n : ℕ). Appends a (message n next.epoch text moment) commit next (with_entry a (new_epoch a) text moment)) (sym number_is)
-    (subst (λ (b : Archive). IsFree (live b.entries) text → collision b.entries text ≡ None → b.next ≤ b.config.max → Appends b (message b.next next.epoch text moment) commit next (with_entry b (new_epoch b) text moment)) is
+    (subst (λ (b : Archive). IsFree (live b.entries) text → collision b.config.form b.entries text ≡ None → b.next ≤ b.config.max → Appends b (message b.next next.epoch text moment) commit next (with_entry b (new_epoch b) text moment)) is
     (λ free alone room. message_here config ks places index end_ kept text moment next commit free alone room after commit_is) free alone room)
 
 pub new-deletion : (config : Config) (ks : List Kept) (places : List (Option KeptPlace)) (index : Index) (end_ : End) (a : Archive) (n : ℕ) (text read : List ℕ) (moment : ℕ) (next : End) (commit : ObjectId) → archive_of config ks places ≡ a → IsKept config ks places index end_
-    → text_of (live a.entries) n ≡ Some text → next ≡ end_after (end_for_new config.limit end_) Deletion read moment → read ≡ text → next.parent ≡ Some commit
+    → text_of (live a.entries) n ≡ Some text → next ≡ end_after config.form (end_for_new config.limit end_) Deletion read moment → read ≡ text → next.parent ≡ Some commit
     → Appends a (deletion n next.epoch text moment) commit next (with_deletion a n (new_epoch a) text moment)
 new-deletion config ks places index end_ a n text read moment next commit is kept shown next_is read_is commit_is =
-    let after : next ≡ end_after (end_for_new config.limit end_) Deletion text moment = next_is ∙ ap (λ (t : List ℕ). end_after (end_for_new config.limit end_) Deletion t moment) read_is in
+    let after : next ≡ end_after config.form (end_for_new config.limit end_) Deletion text moment = next_is ∙ ap (λ (t : List ℕ). end_after config.form (end_for_new config.limit end_) Deletion t moment) read_is in
     subst (λ (b : Archive). text_of (live b.entries) n ≡ Some text → Appends b (deletion n next.epoch text moment) commit next (with_deletion b n (new_epoch b) text moment)) is
     (λ shown. deletion_here config ks places index end_ kept n text moment next commit shown after commit_is) shown
 
@@ -117,11 +117,11 @@ not-later config ks places index end_ a e is kept may =
 
 -- An entry again, in its epoch.
 pub end-again : (config : Config) (ks : List Kept) (places : List (Option KeptPlace)) (index : Index) (end_ : End) (a : Archive) (e : Entry) (begin next : End) (read : List ℕ) (commit : ObjectId) → archive_of config ks places ≡ a → IsKept config ks places index end_ → EntryMayFollow a e
-    → begin ≡ end_in_epoch e.epoch config.limit end_ → next ≡ end_after begin e.kind read e.moment → read ≡ e.text → next.parent ≡ Some commit → IsEndAfter a e commit next
+    → begin ≡ end_in_epoch e.epoch config.limit end_ → next ≡ end_after config.form begin e.kind read e.moment → read ≡ e.text → next.parent ≡ Some commit → IsEndAfter a e commit next
 end-again config ks places index end_ a e begin next read commit is kept may begin_is next_is read_is commit_is =
     let low : last_epoch (entries_of ks) ≤ e.epoch = subst (λ (b : Archive). last_epoch b.entries ≤ e.epoch) (sym is) may.epoch in
-    let new : NewEnd config.limit (entries_of ks) e.epoch begin = subst (λ (b : End). NewEnd config.limit (entries_of ks) e.epoch b) (sym begin_is) (IsEpochEnd-in config.limit e.epoch (entries_of ks) end_ kept.ends kept.last low may.small) in
-    subst (λ (b : Archive). IsEndAfter b e commit next) is (end-after (archive_of config ks places) e begin next commit new (next_is ∙ ap (λ (t : List ℕ). end_after begin e.kind t e.moment) read_is) commit_is)
+    let new : NewEnd config.form config.limit (entries_of ks) e.epoch begin = subst (λ (b : End). NewEnd config.form config.limit (entries_of ks) e.epoch b) (sym begin_is) (IsEpochEnd-in config.form config.limit e.epoch (entries_of ks) end_ kept.ends kept.last low may.small) in
+    subst (λ (b : Archive). IsEndAfter b e commit next) is (end-after (archive_of config ks places) e begin next commit new (next_is ∙ ap (λ (t : List ℕ). end_after config.form begin e.kind t e.moment) read_is) commit_is)
 
 -- The numbers that a message leaves out are given first.
 pub again-message : (a : Archive) (e : Entry) (commit : ObjectId) (next : End) → e.kind ≡ Message → EntryMayFollow a e → IsEndAfter a e commit next → Appends (numbered_to a e.number) e commit next (appended_as a e) × (e.number ≡ greater a.next e.number)

@@ -4,7 +4,7 @@ use Rattle.std.specs.List.{AllByRecursion}
 use Rattle.std.specs.Str.{bytes_eq}
 use Rattle.std.proofs.lemmas.List.{drop_all}
 use Rattle.arch_base.specs.declared.config.Config.{Config}
-use Rattle.arch_base.specs.declared.ids.Form.TheVariants as form
+use Rattle.arch_base.specs.declared.ids.Form.{Form}
 use Rattle.mail_reader.specs.Ids.{own_id}
 use Rattle.git_objects.specs.Objects.{blob_id_of}
 use Rattle.git_objects.specs.declared.entry_kind.EntryKind.{EntryKind}
@@ -30,7 +30,7 @@ pub record MayFollowAll (next : ℕ) (a : Archive) (es : List Entry) : Type 0 wh
   pub rise : Rise a.next (last_epoch a.entries) es
   pub ends : AtEachPlace (λ (before : List Entry) (e : Entry). EndsLive e.kind before e) a.entries es
   pub ids : AtEachPlace LiveDiffer a.entries es
-  pub blobs : BlobsAgree (a.entries ++ es)
+  pub blobs : BlobsAgree a.config.form (a.entries ++ es)
   pub below : AllByRecursion (λ (e : Entry). e.number < next) es
   pub named : AllByRecursion HasId es
   pub small : AllByRecursion (λ (e : Entry). e.epoch ≤ 63) es
@@ -42,9 +42,9 @@ middle : (P : Entry → Type 0) (xs es : List Entry) (e : Entry) → AllByRecurs
 middle P [] es e all = all.0
 middle P (x ∷ xs) es e all = middle P xs es e all.1
 
-agrees_before : (xs es : List Entry) (e : Entry) → BlobsAgree (xs ++ e ∷ es) → Agrees e.text xs
-agrees_before [] es e agree = tt
-agrees_before (x ∷ xs) es e agree = (middle (λ (f : Entry). blob_id_of form.Sha1 f.text ≡ blob_id_of form.Sha1 x.text → f.text ≡ x.text) xs es e agree.0, agrees_before xs es e agree.1)
+agrees_before : (form : Form) (xs es : List Entry) (e : Entry) → BlobsAgree form (xs ++ e ∷ es) → Agrees form e.text xs
+agrees_before form [] es e agree = tt
+agrees_before form (x ∷ xs) es e agree = (middle (λ (f : Entry). blob_id_of form f.text ≡ blob_id_of form x.text → f.text ≡ x.text) xs es e agree.0, agrees_before form xs es e agree.1)
 
 apart_before : (xs : List Entry) (e : Entry) → IdsDiffer (xs ++ e ∷ []) → AllByRecursion (λ (f : Entry). own_id f.text ≢ own_id e.text) xs
 apart_before [] e differ = tt
@@ -72,7 +72,7 @@ module _ (next : ℕ) (a : Archive) (e : Entry) (es : List Entry) (may : MayFoll
     epoch = may.rise.1;
     small = may.small.0;
     named = may.named.0;
-    alone = none_collides a.entries e.text (agrees_before a.entries es e may.blobs);
+    alone = none_collides a.config.form a.entries e.text (agrees_before a.config.form a.entries es e may.blobs);
     numbered = numbered e.kind refl;
   }
 
@@ -86,7 +86,7 @@ module _ (next : ℕ) (a : Archive) (e : Entry) (es : List Entry) (may : MayFoll
     rise = subst (λ (n : ℕ). Rise (number_after e.kind a.next e.number) n es) (sym (last_epoch-push a.entries e may.rise.1)) may.rise.2;
     ends = may.ends.1;
     ids = may.ids.1;
-    blobs = subst BlobsAgree (sym (append_assoc a.entries (e ∷ []) es)) may.blobs;
+    blobs = subst (BlobsAgree a.config.form) (sym (append_assoc a.entries (e ∷ []) es)) may.blobs;
     below = may.below.1;
     named = may.named.1;
     small = may.small.1;
@@ -128,7 +128,7 @@ copied-start config ks places index end_ a made text items is kept made_is items
           rise = kept_rise (other text) (entries_of ks) 1 0 1 0 (omega arith) (omega arith) kept.order;
           ends = stays.ends;
           ids = stays.ids;
-          blobs = kept_blobs (other text) (entries_of ks) kept.blobs;
+          blobs = kept_blobs (other text) config.form (entries_of ks) kept.blobs;
           below = kept_all (other text) (λ (e : Entry). e.number < length places + 1) (entries_of ks) (all_weaker (IsNumberUpTo (length places)) (λ (e : Entry). e.number < length places + 1) (entries_of ks) (λ e up. up.1) kept.numbered);
           named = kept_all (other text) HasId (entries_of ks) kept.named;
           small = kept_all (other text) (λ (e : Entry). e.epoch ≤ 63) (entries_of ks) (all_weaker (λ (e : Entry). e.epoch ≤ last_epoch (entries_of ks)) (λ (e : Entry). e.epoch ≤ 63) (entries_of ks) (λ e before. (let high : end_.epoch ≤ 63 = kept.ends.small in let last : end_.epoch ≡ last_epoch (entries_of ks) = kept.last in omega (arith, before, high, last))) (none_later (entries_of ks)));

@@ -3,9 +3,9 @@ use Rattle.std.specs.Prelude.{◌≡◌, ◌+◌, ◌≤◌, ℕ, Bool, true, fa
 use Rattle.std.proofs.Common.{◌∙◌, sym, ap, subst, arith}
 use Rattle.arch_base.specs.declared.config.Config.{Config}
 use Rattle.arch_base.specs.declared.ids.ObjectId.{ObjectId}
-use Rattle.arch_base.specs.declared.ids.Form.TheVariants as form
 use Rattle.mail_reader.specs.Ids.{own_id}
 use Rattle.mail_commits.specs.declared.ids.TextIds.{TextIds}
+use Rattle.mail_commits.specs.Ids.{text_ids_of}
 use Rattle.git_objects.specs.Objects.{blob_id_of}
 use Rattle.arch_model.specs.Archives.{Archive, live, messages, text_of, owner, blob_number, with_deletion, IsFree}
 use Rattle.arch_model.specs.Delivery.{Done, Delivers, delivered, delivered_kept, removed, removed_text, purged, purged_text, edited, edited_text, unless_refused, refused, collision, new_epoch}
@@ -48,8 +48,11 @@ module _ (config : Config) (ks : List Kept) (places : List (Option KeptPlace)) (
         let own = some-of (own_id text) comes.storage.id in
         (own.0, own.1, ap (λ (b : Archive). owner (live b.entries) own.0) (sym is) ∙ unowned (entries_of ks) index own.0 kept.indexed (comes.new_id own.0 own.1))
 
-    named : blob_number a.entries (blob_id_of form.Sha1 text) ≡ number_in index.blobs ids.blob
-    named = ap (λ (i : TextIds). blob_number a.entries i.blob) (sym comes.ids_are) ∙ ap (λ (b : Archive). blob_number b.entries ids.blob) (sym is) ∙ sym (kept.indexed.blobs ids.blob)
+    ids_here : ids ≡ text_ids_of a.config.form text
+    ids_here = comes.ids_are ∙ ap (λ (c : Config). text_ids_of c.form text) (sym config_is)
+
+    named : blob_number a.config.form a.entries (blob_id_of a.config.form text) ≡ number_in index.blobs ids.blob
+    named = ap (λ (i : TextIds). blob_number a.config.form a.entries i.blob) (sym ids_here) ∙ ap (λ (b : Archive). blob_number b.config.form b.entries ids.blob) (sym is) ∙ sym (kept.indexed.blobs ids.blob)
 
     module _ (next : ℕ) (next_is : next ≡ a.next) where
       room : (number : ℕ) → MayBeKept config index next text ids number → a.next ≤ a.config.max
@@ -60,20 +63,20 @@ module _ (config : Config) (ks : List Kept) (places : List (Option KeptPlace)) (
 
       -- A text with a new blob id may be kept.
       pub keep-new : (number : ℕ) → MayBeKept config index next text ids number → number_in index.blobs ids.blob ≡ None → MayKeep a (Take text ids number)
-      keep-new number may new = (free-text, comes.ids_are, collision-alone a.entries text (named ∙ new), room number may, may.number_is ∙ next_is)
+      keep-new number may new = (free-text, ids_here, collision-alone a.config.form a.entries text (named ∙ new), room number may, may.number_is ∙ next_is)
 
       -- So may one that was compared with the same text.
-      pub keep-same : (number : ℕ) (found : ℕ) → MayBeKept config index next text ids number → number_in index.blobs ids.blob ≡ Some found → blob_text a.entries (blob_id_of form.Sha1 text) ≡ Some text → MayKeep a (Take text ids number)
+      pub keep-same : (number : ℕ) (found : ℕ) → MayBeKept config index next text ids number → number_in index.blobs ids.blob ≡ Some found → blob_text a.config.form a.entries (blob_id_of a.config.form text) ≡ Some text → MayKeep a (Take text ids number)
       keep-same number found may first text_is =
-          let agree = subst (λ (b : Archive). collision b.entries text ≡ None) is
-          (collision-first (entries_of ks) text text found kept.blobs (ap (λ (b : Archive). blob_number b.entries (blob_id_of form.Sha1 text)) is ∙ named ∙ first) (ap (λ (b : Archive). blob_text b.entries (blob_id_of form.Sha1 text)) is ∙ text_is)
+          let agree = subst (λ (b : Archive). collision b.config.form b.entries text ≡ None) is
+          (collision-first config.form (entries_of ks) text text found kept.blobs (ap (λ (b : Archive). blob_number b.config.form b.entries (blob_id_of b.config.form text)) is ∙ named ∙ first) (ap (λ (b : Archive). blob_text b.config.form b.entries (blob_id_of b.config.form text)) is ∙ text_is)
           ∙ ap (λ (t : Bool). if t then None else Some found) (bytes_eq-refl text text refl)) in
-          (free-text, comes.ids_are, agree, room number may, may.number_is ∙ next_is)
+          (free-text, ids_here, agree, room number may, may.number_is ∙ next_is)
 
       -- What a comparison decides.
-      pub compared-keeps : (found : ℕ) (held : List ℕ) (v : Verdict) → number_in index.blobs ids.blob ≡ Some found → blob_text a.entries ids.blob ≡ Some held → TakesThis config next text ids v → TakesSame text held v → MayKeep a v
+      pub compared-keeps : (found : ℕ) (held : List ℕ) (v : Verdict) → number_in index.blobs ids.blob ≡ Some found → blob_text a.config.form a.entries ids.blob ≡ Some held → TakesThis config next text ids v → TakesSame text held v → MayKeep a v
       compared-keeps found held (Take taken other number) first held_is takes same =
-          let text_is : blob_text a.entries (blob_id_of form.Sha1 text) ≡ Some text = ap (λ (i : TextIds). blob_text a.entries i.blob) (sym comes.ids_are) ∙ held_is ∙ ap Some same in
+          let text_is : blob_text a.config.form a.entries (blob_id_of a.config.form text) ≡ Some text = ap (λ (i : TextIds). blob_text a.config.form a.entries i.blob) (sym ids_here) ∙ held_is ∙ ap Some same in
           let keeps : MayKeep a (Take text ids number) = keep-same number found (takes.2 index comes) first text_is in
           subst (λ (t : List ℕ). MayKeep a (Take t other number)) (sym takes.0) (subst (λ (i : TextIds). MayKeep a (Take text i number)) (sym takes.1) keeps)
       compared-keeps found held (Refuse reply) first held_is takes same = tt
@@ -84,11 +87,11 @@ module _ (config : Config) (ks : List Kept) (places : List (Option KeptPlace)) (
   judged-keeps next next_is (Refuse reply) may = tt
 
   -- The text that is compared is that of the first entry with the blob id.
-  pub compared-with : (blob : ObjectId) (found : ℕ) (held : List ℕ) → number_in index.blobs blob ≡ Some found → Some held ≡ text_of (messages a.entries) found → blob_text a.entries blob ≡ Some held
+  pub compared-with : (blob : ObjectId) (found : ℕ) (held : List ℕ) → number_in index.blobs blob ≡ Some found → Some held ≡ text_of (messages a.entries) found → blob_text a.config.form a.entries blob ≡ Some held
   compared-with blob found held first held_is = sym (blob_in-some config ks places index end_ a is kept blob found (Some held) (sym first) held_is)
 
-  pub compared-decides : (bytes text : List ℕ) (blob : ObjectId) (found : ℕ) (held : List ℕ) → Compares a bytes text blob found → blob_text a.entries blob ≡ Some held → (moment : ℕ) → delivered a bytes moment ≡ delivered_kept a text moment (unless_same text held found)
-  compared-decides bytes text blob found held compares held_is moment = compares.decides (subst (λ (b : Archive). BlobsAgree b.entries) is kept.blobs) held held_is moment
+  pub compared-decides : (bytes text : List ℕ) (blob : ObjectId) (found : ℕ) (held : List ℕ) → Compares a bytes text blob found → blob_text a.config.form a.entries blob ≡ Some held → (moment : ℕ) → delivered a bytes moment ≡ delivered_kept a text moment (unless_same text held found)
+  compared-decides bytes text blob found held compares held_is moment = compares.decides (subst (λ (b : Archive). BlobsAgree b.config.form b.entries) is kept.blobs) held held_is moment
 
 -- The answers to a removal.
 pub removed-mirror : (a : Archive) (number moment : ℕ) → a.config.mirror ≡ true → removed a number moment ≡ record { archive = a; answer = answer.IsMirror }
@@ -100,12 +103,12 @@ by_text a number moment found writable is = ap (λ (t : Bool). if t then refused
 pub removed-none : (a : Archive) (number moment : ℕ) → a.config.mirror ≡ false → text_of (live a.entries) number ≡ None → removed a number moment ≡ record { archive = a; answer = answer.NotLive number }
 removed-none a number moment writable none = by_text a number moment None writable none
 
-pub removed-some : (a new : Archive) (number moment : ℕ) (text read : List ℕ) (id : ObjectId) → a.config.mirror ≡ false → text_of (live a.entries) number ≡ Some text → id ≡ blob_id_of form.Sha1 read → read ≡ text → new ≡ with_deletion a number (new_epoch a) text moment
+pub removed-some : (a new : Archive) (number moment : ℕ) (text read : List ℕ) (id : ObjectId) → a.config.mirror ≡ false → text_of (live a.entries) number ≡ Some text → id ≡ blob_id_of a.config.form read → read ≡ text → new ≡ with_deletion a number (new_epoch a) text moment
     → removed a number moment ≡ record { archive = new; answer = answer.Ok number id }
 removed-some a new number moment text read id writable is id_is read_is new_is =
     by_text a number moment (Some text) writable is
-    ∙ ap (λ (b : Archive). record { archive = b; answer = answer.Ok number (blob_id_of form.Sha1 text) }) (sym new_is)
-    ∙ ap (λ (i : ObjectId). record { archive = new; answer = answer.Ok number i }) (sym (id_is ∙ ap (blob_id_of form.Sha1) read_is))
+    ∙ ap (λ (b : Archive). record { archive = b; answer = answer.Ok number (blob_id_of a.config.form text) }) (sym new_is)
+    ∙ ap (λ (i : ObjectId). record { archive = new; answer = answer.Ok number i }) (sym (id_is ∙ ap (blob_id_of a.config.form) read_is))
 
 -- The answer of a mirror to a purge, and to an edit.
 pub purged-mirror : (a : Archive) (number : ℕ) → a.config.mirror ≡ true → purged a number ≡ record { archive = a; answer = answer.IsMirror }

@@ -5,7 +5,7 @@ use Rattle.std.proofs.lemmas.List.Elements.{filter-append}
 use Rattle.std.proofs.lemmas.Bool.Decides.{nat_tests}
 use Rattle.std.proofs.lemmas.Option.{same_Some}
 use Rattle.arch_base.specs.declared.ids.ObjectId.{ObjectId}
-use Rattle.arch_base.specs.declared.ids.Form.TheVariants as form
+use Rattle.arch_base.specs.declared.ids.Form.{Form}
 use Rattle.arch_model.specs.Archives.{Entry, Archive, in_epoch}
 use Rattle.arch_model.specs.Delivery.{last_epoch, greater, takes_more, new_epoch}
 use Rattle.arch_model.specs.Epochs.{epoch_bytes, entries_bytes, last_commit}
@@ -14,18 +14,18 @@ use Rattle.mem_archive.specs.Memory.{IsEpochEnd, IsEndAfter, end_for_new, end_in
 use Rattle.mem_archive.specs.declared.kept.End.{End}
 use Rattle.arch_model.proofs.EpochLemmas.{entries_bytes-push, last_commit-push}
 
-front_some : (id : ObjectId) (es : List Entry) → front_bytes (last_commit (Some id) es) ≡ []
-front_some id [] = refl
-front_some id (e ∷ es) = front_some (commit_id form.Sha1 e.kind e.text e.moment (Some id)) es
+front_some : (form : Form) (id : ObjectId) (es : List Entry) → front_bytes form (last_commit form (Some id) es) ≡ []
+front_some form id [] = refl
+front_some form id (e ∷ es) = front_some form (commit_id form e.kind e.text e.moment (Some id)) es
 
 -- The bytes of an epoch with one more entry.
-pub epoch_bytes-after : (es : List Entry) (e : Entry) → epoch_bytes (es ++ e ∷ []) ≡ epoch_bytes es ++ (front_bytes (last_commit None es) ++ entry_bytes form.Sha1 e.kind e.text e.moment (last_commit None es))
-epoch_bytes-after [] e = ap (λ bs. magic form.Sha1 ++ bs) (append-nil (entry_bytes form.Sha1 e.kind e.text e.moment None))
-epoch_bytes-after (x ∷ es) e =
-    let p : Option ObjectId = Some (commit_id form.Sha1 x.kind x.text x.moment None) in
-    ap (λ bs. magic form.Sha1 ++ bs) (entries_bytes-push None (x ∷ es) e)
-    ∙ sym (append_assoc (magic form.Sha1) (entries_bytes None (x ∷ es)) (entry_bytes form.Sha1 e.kind e.text e.moment (last_commit None (x ∷ es))))
-    ∙ ap (λ bs. (magic form.Sha1 ++ entries_bytes None (x ∷ es)) ++ (bs ++ entry_bytes form.Sha1 e.kind e.text e.moment (last_commit None (x ∷ es)))) (sym (front_some (commit_id form.Sha1 x.kind x.text x.moment None) es))
+pub epoch_bytes-after : (form : Form) (es : List Entry) (e : Entry) → epoch_bytes form (es ++ e ∷ []) ≡ epoch_bytes form es ++ (front_bytes form (last_commit form None es) ++ entry_bytes form e.kind e.text e.moment (last_commit form None es))
+epoch_bytes-after form [] e = ap (λ bs. magic form ++ bs) (append-nil (entry_bytes form e.kind e.text e.moment None))
+epoch_bytes-after form (x ∷ es) e =
+    let p : Option ObjectId = Some (commit_id form x.kind x.text x.moment None) in
+    ap (λ bs. magic form ++ bs) (entries_bytes-push form None (x ∷ es) e)
+    ∙ sym (append_assoc (magic form) (entries_bytes form None (x ∷ es)) (entry_bytes form e.kind e.text e.moment (last_commit form None (x ∷ es))))
+    ∙ ap (λ bs. (magic form ++ entries_bytes form None (x ∷ es)) ++ (bs ++ entry_bytes form e.kind e.text e.moment (last_commit form None (x ∷ es)))) (sym (front_some form (commit_id form x.kind x.text x.moment None) es))
 
 one_in : (e : Entry) (k : ℕ) (t : Bool) → (if t then e ∷ in_epoch [] k else in_epoch [] k) ≡ (if t then e ∷ [] else [])
 one_in e k true = refl
@@ -71,70 +71,70 @@ last_epoch-push (x ∷ es) e h =
     ap (greater x.epoch) (last_epoch-push es e (omega (arith, low.1))) ∙ greater_end x.epoch e.epoch (omega (arith, low.0))
 
 -- The end after one more entry in its epoch.
-pub IsEpochEnd-push : (limit : ℕ) (es : List Entry) (e : Entry) (end_ : End) → IsEpochEnd limit es end_ → e.epoch ≡ end_.epoch → IsEpochEnd limit (es ++ e ∷ []) (end_after end_ e.kind e.text e.moment)
-IsEpochEnd-push limit es e end_ is at =
+pub IsEpochEnd-push : (form : Form) (limit : ℕ) (es : List Entry) (e : Entry) (end_ : End) → IsEpochEnd form limit es end_ → e.epoch ≡ end_.epoch → IsEpochEnd form limit (es ++ e ∷ []) (end_after form end_ e.kind e.text e.moment)
+IsEpochEnd-push form limit es e end_ is at =
     let here : List Entry = in_epoch es end_.epoch in
     let more : in_epoch (es ++ e ∷ []) end_.epoch ≡ here ++ e ∷ [] = in_epoch-at es e end_.epoch at in
-    let added : List ℕ = front_bytes end_.parent ++ entry_bytes form.Sha1 e.kind e.text e.moment end_.parent in
-    let bytes : epoch_bytes (in_epoch (es ++ e ∷ []) end_.epoch) ≡ epoch_bytes here ++ added =
-    ap epoch_bytes more ∙ epoch_bytes-after here e ∙ ap (λ (p : Option ObjectId). epoch_bytes here ++ (front_bytes p ++ entry_bytes form.Sha1 e.kind e.text e.moment p)) (sym is.parent) in
+    let added : List ℕ = front_bytes form end_.parent ++ entry_bytes form e.kind e.text e.moment end_.parent in
+    let bytes : epoch_bytes form (in_epoch (es ++ e ∷ []) end_.epoch) ≡ epoch_bytes form here ++ added =
+    ap (epoch_bytes form) more ∙ epoch_bytes-after form here e ∙ ap (λ (p : Option ObjectId). epoch_bytes form here ++ (front_bytes form p ++ entry_bytes form e.kind e.text e.moment p)) (sym is.parent) in
     record {
-      room = omega (arith, is.room, ap length bytes, length-append (epoch_bytes here) added);
-      parent = sym (ap (last_commit None) more ∙ last_commit-push None here e ∙ ap (λ (p : Option ObjectId). Some (commit_id form.Sha1 e.kind e.text e.moment p)) (sym is.parent));
+      room = omega (arith, is.room, ap length bytes, length-append (epoch_bytes form here) added);
+      parent = sym (ap (last_commit form None) more ∙ last_commit-push form None here e ∙ ap (λ (p : Option ObjectId). Some (commit_id form e.kind e.text e.moment p)) (sym is.parent));
       small = is.small;
     }
 
 -- The end to which a new entry is appended, and its epoch.
-abbrev pub NewEnd : ℕ → List Entry → ℕ → End → Type 0
-NewEnd limit es epoch end_ = IsEpochEnd limit es end_ × (end_.epoch ≡ epoch) × (last_epoch es ≤ end_.epoch)
+abbrev pub NewEnd : Form → ℕ → List Entry → ℕ → End → Type 0
+NewEnd form limit es epoch end_ = IsEpochEnd form limit es end_ × (end_.epoch ≡ epoch) × (last_epoch es ≤ end_.epoch)
 
 -- A new epoch has no entry.
-new_end : (limit epoch : ℕ) (es : List Entry) → last_epoch es < epoch → epoch ≤ 63 → NewEnd limit es epoch (record { epoch = epoch; room = limit; parent = None })
-new_end limit epoch es later small =
+new_end : (form : Form) (limit epoch : ℕ) (es : List Entry) → last_epoch es < epoch → epoch ≤ 63 → NewEnd form limit es epoch (record { epoch = epoch; room = limit; parent = None })
+new_end form limit epoch es later small =
     let none : in_epoch es epoch ≡ [] = none_above es epoch later in (
       record {
-        room = let all : limit ≡ limit - 0 = omega arith in all ∙ sym (ap (λ (xs : List Entry). limit - length (epoch_bytes xs)) none);
-        parent = sym (ap (last_commit None) none);
+        room = let all : limit ≡ limit - 0 = omega arith in all ∙ sym (ap (λ (xs : List Entry). limit - length (epoch_bytes form xs)) none);
+        parent = sym (ap (last_commit form None) none);
         small = small;
       },
       refl,
       omega (arith, later),
     )
 
-new_step : (limit len : ℕ) (es : List Entry) (end_ : End) (t u : Bool) → IsEpochEnd limit es end_ → end_.epoch ≡ last_epoch es → t ≡ u → (t ≡ false → end_.epoch < 63)
-    → NewEnd limit es (if u then last_epoch es else last_epoch es + 1) (if t then end_ else record { epoch = end_.epoch + 1; room = limit; parent = None })
-new_step limit len es end_ true true is last same below = (is, last, omega (arith, last))
-new_step limit len es end_ true false is last same below = absurd (cc)
-new_step limit len es end_ false true is last same below = absurd (cc)
-new_step limit len es end_ false false is last same below =
-    subst (λ (n : ℕ). NewEnd limit es (n + 1) (record { epoch = end_.epoch + 1; room = limit; parent = None })) last (new_end limit (end_.epoch + 1) es (omega (arith, last)) (omega (arith, below refl)))
+new_step : (form : Form) (limit len : ℕ) (es : List Entry) (end_ : End) (t u : Bool) → IsEpochEnd form limit es end_ → end_.epoch ≡ last_epoch es → t ≡ u → (t ≡ false → end_.epoch < 63)
+    → NewEnd form limit es (if u then last_epoch es else last_epoch es + 1) (if t then end_ else record { epoch = end_.epoch + 1; room = limit; parent = None })
+new_step form limit len es end_ true true is last same below = (is, last, omega (arith, last))
+new_step form limit len es end_ true false is last same below = absurd (cc)
+new_step form limit len es end_ false true is last same below = absurd (cc)
+new_step form limit len es end_ false false is last same below =
+    subst (λ (n : ℕ). NewEnd form limit es (n + 1) (record { epoch = end_.epoch + 1; room = limit; parent = None })) last (new_end form limit (end_.epoch + 1) es (omega (arith, last)) (omega (arith, below refl)))
 
-pub IsEpochEnd-new : (a : Archive) (end_ : End) → IsEpochEnd a.config.limit a.entries end_ → end_.epoch ≡ last_epoch a.entries → NewEnd a.config.limit a.entries (new_epoch a) (end_for_new a.config.limit end_)
+pub IsEpochEnd-new : (a : Archive) (end_ : End) → IsEpochEnd a.config.form a.config.limit a.entries end_ → end_.epoch ≡ last_epoch a.entries → NewEnd a.config.form a.config.limit a.entries (new_epoch a) (end_for_new a.config.limit end_)
 IsEpochEnd-new a end_ is last =
-    let len : ℕ = length (epoch_bytes (in_epoch a.entries (last_epoch a.entries))) in
-    let room : end_.room ≡ a.config.limit - len = is.room ∙ ap (λ (k : ℕ). a.config.limit - length (epoch_bytes (in_epoch a.entries k))) last in
+    let len : ℕ = length (epoch_bytes a.config.form (in_epoch a.entries (last_epoch a.entries))) in
+    let room : end_.room ≡ a.config.limit - len = is.room ∙ ap (λ (k : ℕ). a.config.limit - length (epoch_bytes a.config.form (in_epoch a.entries k))) last in
     let same : nat_lt 0 end_.room ≡ nat_lt len a.config.limit = grind (arith, nat_tests, room) in
     let tests : (end_.epoch == 63 || nat_lt 0 end_.room) ≡ takes_more a.config.limit (last_epoch a.entries) len = ap (λ (t : Bool). end_.epoch == 63 || t) same ∙ ap (λ (k : ℕ). k == 63 || nat_lt len a.config.limit) last in
-    new_step a.config.limit len a.entries end_ (end_.epoch == 63 || nat_lt 0 end_.room) (takes_more a.config.limit (last_epoch a.entries) len) is last tests (λ closed. below end_.epoch (nat_lt 0 end_.room) is.small closed)
+    new_step a.config.form a.config.limit len a.entries end_ (end_.epoch == 63 || nat_lt 0 end_.room) (takes_more a.config.limit (last_epoch a.entries) len) is last tests (λ closed. below end_.epoch (nat_lt 0 end_.room) is.small closed)
   where
     below : (k : ℕ) (t : Bool) → k ≤ 63 → (k == 63 || t) ≡ false → k < 63
     below k t small closed = grind (arith, nat_tests, small, closed)
 
 -- The end to which an entry of an epoch is appended that isn't before the last one.
-in_step : (limit epoch : ℕ) (es : List Entry) (end_ : End) (t : Bool) → (end_.epoch == epoch) ≡ t → IsEpochEnd limit es end_ → end_.epoch ≡ last_epoch es → last_epoch es ≤ epoch → epoch ≤ 63 → NewEnd limit es epoch (if t then end_ else record { epoch = epoch; room = limit; parent = None })
-in_step limit epoch es end_ true test is last low small = (is, grind (arith, nat_tests, test), omega (arith, last))
-in_step limit epoch es end_ false test is last low small = new_end limit epoch es (grind (arith, nat_tests, test, last, low)) small
+in_step : (form : Form) (limit epoch : ℕ) (es : List Entry) (end_ : End) (t : Bool) → (end_.epoch == epoch) ≡ t → IsEpochEnd form limit es end_ → end_.epoch ≡ last_epoch es → last_epoch es ≤ epoch → epoch ≤ 63 → NewEnd form limit es epoch (if t then end_ else record { epoch = epoch; room = limit; parent = None })
+in_step form limit epoch es end_ true test is last low small = (is, grind (arith, nat_tests, test), omega (arith, last))
+in_step form limit epoch es end_ false test is last low small = new_end form limit epoch es (grind (arith, nat_tests, test, last, low)) small
 
-pub IsEpochEnd-in : (limit epoch : ℕ) (es : List Entry) (end_ : End) → IsEpochEnd limit es end_ → end_.epoch ≡ last_epoch es → last_epoch es ≤ epoch → epoch ≤ 63 → NewEnd limit es epoch (end_in_epoch epoch limit end_)
-IsEpochEnd-in limit epoch es end_ is last low small = in_step limit epoch es end_ (end_.epoch == epoch) refl is last low small
+pub IsEpochEnd-in : (form : Form) (limit epoch : ℕ) (es : List Entry) (end_ : End) → IsEpochEnd form limit es end_ → end_.epoch ≡ last_epoch es → last_epoch es ≤ epoch → epoch ≤ 63 → NewEnd form limit es epoch (end_in_epoch epoch limit end_)
+IsEpochEnd-in form limit epoch es end_ is last low small = in_step form limit epoch es end_ (end_.epoch == epoch) refl is last low small
 
 -- The end and the commit after an entry that is appended there.
-pub end-after : (a : Archive) (e : Entry) (begin next : End) (commit : ObjectId) → NewEnd a.config.limit a.entries e.epoch begin → next ≡ end_after begin e.kind e.text e.moment → next.parent ≡ Some commit → IsEndAfter a e commit next
+pub end-after : (a : Archive) (e : Entry) (begin next : End) (commit : ObjectId) → NewEnd a.config.form a.config.limit a.entries e.epoch begin → next ≡ end_after a.config.form begin e.kind e.text e.moment → next.parent ≡ Some commit → IsEndAfter a e commit next
 end-after a e begin next commit new next_is commit_is =
-    let parent : begin.parent ≡ last_commit None (in_epoch a.entries e.epoch) = new.0.parent ∙ ap (λ (n : ℕ). last_commit None (in_epoch a.entries n)) new.1 in
-    let some : Some commit ≡ Some (commit_id form.Sha1 e.kind e.text e.moment begin.parent) = sym commit_is ∙ ap (λ (n : End). n.parent) next_is in
+    let parent : begin.parent ≡ last_commit a.config.form None (in_epoch a.entries e.epoch) = new.0.parent ∙ ap (λ (n : ℕ). last_commit a.config.form None (in_epoch a.entries n)) new.1 in
+    let some : Some commit ≡ Some (commit_id a.config.form e.kind e.text e.moment begin.parent) = sym commit_is ∙ ap (λ (n : End). n.parent) next_is in
     record {
-      ends = subst (λ (n : End). IsEpochEnd a.config.limit (a.entries ++ e ∷ []) n) (sym next_is) (IsEpochEnd-push a.config.limit a.entries e begin new.0 (sym new.1));
+      ends = subst (λ (n : End). IsEpochEnd a.config.form a.config.limit (a.entries ++ e ∷ []) n) (sym next_is) (IsEpochEnd-push a.config.form a.config.limit a.entries e begin new.0 (sym new.1));
       epoch = ap (λ (n : End). n.epoch) next_is ∙ new.1;
-      commit_is = same_Some commit (commit_id form.Sha1 e.kind e.text e.moment begin.parent) some ∙ ap (commit_id form.Sha1 e.kind e.text e.moment) parent;
+      commit_is = same_Some commit (commit_id a.config.form e.kind e.text e.moment begin.parent) some ∙ ap (commit_id a.config.form e.kind e.text e.moment) parent;
     }

@@ -5,7 +5,6 @@ use Rattle.std.proofs.lemmas.List.{length-replicate, take_all}
 use Rattle.std.specs.List.{AllByRecursion}
 use Rattle.arch_base.specs.declared.config.Config.{Config}
 use Rattle.arch_base.specs.declared.ids.ObjectId.{ObjectId}
-use Rattle.arch_base.specs.declared.ids.Form.TheVariants as form
 use Rattle.mail_reader.specs.Ids.{own_id}
 use Rattle.mail_reader.specs.Content.{content_id_of}
 use Rattle.git_objects.specs.Objects.{blob_id_of}
@@ -52,19 +51,19 @@ module _ (config : Config) (ks : List Kept) (places : List (Option KeptPlace)) (
   older = all_weaker (λ (e : Entry). e.epoch ≤ last_epoch (entries_of ks)) (λ (e : Entry). e.epoch ≤ k.epoch) (entries_of ks) (λ e before. (let low : last_epoch (entries_of ks) ≤ k.epoch = may.epoch in omega (arith, before, low))) (none_later (entries_of ks))
 
   -- The lines are those of the entries.
-  lines_are : lines_of (ks ++ k ∷ []) ≡ lines_after [] (entries_of (ks ++ k ∷ []))
+  lines_are : lines_of config.form (ks ++ k ∷ []) ≡ lines_after config.form [] (entries_of (ks ++ k ∷ []))
   lines_are =
-      lines_of-push ks k
-      ∙ ap (λ (ls : List EntryLine). ls ++ line_of k ∷ []) kept.lines
-      ∙ ap (λ (c : ObjectId). lines_after [] (entries_of ks) ++ record { kind = k.kind; number = k.number; epoch = k.epoch; secs = k.moment; blob = blob_id_of form.Sha1 k.text; size = length k.text; commit = c } ∷ []) after.commit_is
-      ∙ sym (lines_after-push [] (entries_of ks) (entry_of k))
-      ∙ ap (lines_after []) (sym (entries_of-push ks k))
+      lines_of-push config.form ks k
+      ∙ ap (λ (ls : List EntryLine). ls ++ line_of config.form k ∷ []) kept.lines
+      ∙ ap (λ (c : ObjectId). lines_after config.form [] (entries_of ks) ++ record { kind = k.kind; number = k.number; epoch = k.epoch; secs = k.moment; blob = blob_id_of config.form k.text; size = length k.text; commit = c } ∷ []) after.commit_is
+      ∙ sym (lines_after-push config.form [] (entries_of ks) (entry_of k))
+      ∙ ap (lines_after config.form []) (sym (entries_of-push ks k))
 
   last_is : next.epoch ≡ last_epoch (entries_of (ks ++ k ∷ []))
   last_is = after.epoch ∙ sym (ap last_epoch (entries_of-push ks k) ∙ last_epoch-push (entries_of ks) (entry_of k) may.epoch)
 
-  ends_are : IsEpochEnd config.limit (entries_of (ks ++ k ∷ [])) next
-  ends_are = subst (λ (es : List Entry). IsEpochEnd config.limit es next) (sym (entries_of-push ks k)) after.ends
+  ends_are : IsEpochEnd config.form config.limit (entries_of (ks ++ k ∷ [])) next
+  ends_are = subst (λ (es : List Entry). IsEpochEnd config.form config.limit es next) (sym (entries_of-push ks k)) after.ends
 
   -- Ids of live entries differ at each place, if they do after the entry.
   differ : IdsDiffer (live (entries_of ks ++ entry_of k ∷ [])) → AtEachPlace LiveDiffer [] (entries_of ks ++ entry_of k ∷ [])
@@ -73,7 +72,7 @@ module _ (config : Config) (ks : List Kept) (places : List (Option KeptPlace)) (
 -- One more message.
 module _ (config : Config) (ks : List Kept) (places : List (Option KeptPlace)) (index new : Index) (end_ next : End) (k : Kept) (id : List ℕ)
     (kept : IsKept config ks places index end_) (may : EntryMayFollow (archive_of config ks places) (entry_of k)) (after : IsEndAfter (archive_of config ks places) (entry_of k) k.commit next)
-    (is_message : k.kind ≡ Message) (number_is : k.number ≡ length places + 1) (own : own_id k.text ≡ Some id) (puts : IndexPuts index new id (blob_id_of form.Sha1 k.text) (record { number = length places + 1; content = content_id_of k.text })) where
+    (is_message : k.kind ≡ Message) (number_is : k.number ≡ length places + 1) (own : own_id k.text ≡ Some id) (puts : IndexPuts index new id (blob_id_of config.form k.text) (record { number = length places + 1; content = content_id_of k.text })) where
   abbrev at_last : KeptPlace
   at_last = record { entry = length ks; live = true }
 
@@ -122,9 +121,9 @@ module _ (config : Config) (ks : List Kept) (places : List (Option KeptPlace)) (
     order = subst (λ (es : List Entry). Rise 1 0 es) (sym pushed) (rise_more 1 0 (entries_of ks) entry kept.order (omega arith) (omega arith) below (older config ks places index end_ next k kept may after));
     deletions = subst (λ (es : List Entry). AtEachPlace (λ (before : List Entry) (e : Entry). EndsLive e.kind before e) [] es) (sym pushed) (place-push (λ (before : List Entry) (e : Entry). EndsLive e.kind before e) [] (entries_of ks) entry kept.deletions tt);
     ids = subst (λ (es : List Entry). AtEachPlace LiveDiffer [] es) (sym pushed) ids;
-    blobs = subst (λ (es : List Entry). BlobsAgree es) (sym pushed) (blobs_more (entries_of ks) entry kept.blobs (agrees-alone (entries_of ks) k.text may.alone));
+    blobs = subst (λ (es : List Entry). BlobsAgree config.form es) (sym pushed) (blobs_more config.form (entries_of ks) entry kept.blobs (agrees-alone config.form (entries_of ks) k.text may.alone));
     named = subst (λ (es : List Entry). AllByRecursion HasId es) (sym pushed) (all_after HasId (entries_of ks) entry kept.named may.named);
-    indexed = subst (λ (es : List Entry). IsArchiveIndex es new) (sym pushed) (IsArchiveIndex-push (entries_of ks) entry index new id (blob_id_of form.Sha1 k.text) (record { number = length places + 1; content = content_id_of k.text }) grows kept.indexed puts refl own unowned refl);
+    indexed = subst (λ (es : List Entry). IsArchiveIndex config.form es new) (sym pushed) (IsArchiveIndex-push (entries_of ks) entry index new id (blob_id_of config.form k.text) (record { number = length places + 1; content = content_id_of k.text }) grows kept.indexed puts refl own unowned refl);
     lines = lines_are config ks places index end_ next k kept may after;
     last = last_is config ks places index end_ next k kept may after;
     ends = ends_are config ks places index end_ next k kept may after;
@@ -160,7 +159,7 @@ is-message config ks places index end_ a k is kept may number_is = by k.kind ref
 -- The same of an archive that these stand for, where what was read of the entry is as it should be.
 pub keeps : (config : Config) (ks : List Kept) (places : List (Option KeptPlace)) (index new : Index) (end_ next : End) (k : Kept) (spelled : List ℕ) (ids : TextIds) (id : List ℕ) (made : Owner) (count : ℕ) (a : Archive)
     → archive_of config ks places ≡ a → IsKept config ks places index end_ → EntryMayFollow a (entry_of k) → k.number ≡ a.next → IsEndAfter a (entry_of k) k.commit next
-    → own_id spelled ≡ Some id → spelled ≡ k.text → made ≡ record { number = a.next; content = ids.content } → ids ≡ text_ids_of form.Sha1 k.text → count ≡ length ks → IndexPuts index new id ids.blob made
+    → own_id spelled ≡ Some id → spelled ≡ k.text → made ≡ record { number = a.next; content = ids.content } → ids ≡ text_ids_of a.config.form k.text → count ≡ length ks → IndexPuts index new id ids.blob made
     → (held : List Kept) → held ≡ ks ++ k ∷ [] → (spots : List (Option KeptPlace)) → spots ≡ places ++ Some (record { entry = count; live = true }) ∷ []
     → IsKept config held spots new next × (archive_of config held spots ≡ appended_as a (entry_of k))
 keeps config ks places index new end_ next k spelled ids id made count a is kept may number_is after own spelled_is made_is ids_are count_is puts held held_is spots spots_is =
@@ -171,8 +170,8 @@ keeps config ks places index new end_ next k spelled ids id made count a is kept
     let named : own_id k.text ≡ Some id = ap own_id (sym spelled_is) ∙ own in
     let owner_is : made ≡ record { number = length places + 1; content = content_id_of k.text } =
     made_is ∙ ap (λ (b : Archive). record { number = b.next; content = ids.content }) (sym is) ∙ ap (λ (i : TextIds). record { number = length places + 1; content = i.content }) ids_are in
-    let named_so : IndexPuts index new id (blob_id_of form.Sha1 k.text) made = subst (λ (i : TextIds). IndexPuts index new id i.blob made) ids_are puts in
-    let put : IndexPuts index new id (blob_id_of form.Sha1 k.text) (record { number = length places + 1; content = content_id_of k.text }) = subst (λ (o : Owner). IndexPuts index new id (blob_id_of form.Sha1 k.text) o) owner_is named_so in
+    let named_so : IndexPuts index new id (blob_id_of config.form k.text) made = subst (λ (i : TextIds). IndexPuts index new id i.blob made) (ids_are ∙ ap (λ (b : Archive). text_ids_of b.config.form k.text) (sym is)) puts in
+    let put : IndexPuts index new id (blob_id_of config.form k.text) (record { number = length places + 1; content = content_id_of k.text }) = subst (λ (o : Owner). IndexPuts index new id (blob_id_of config.form k.text) o) owner_is named_so in
     let places_are : spots ≡ places ++ Some (record { entry = length ks; live = true }) ∷ [] = spots_is ∙ ap (λ (m : ℕ). places ++ Some (record { entry = m; live = true }) ∷ []) count_is in
     subst (λ (ls : List Kept). IsKept config ls spots new next × (archive_of config ls spots ≡ appended_as a (entry_of k))) (sym held_is)
     (subst (λ (ps : List (Option KeptPlace)). IsKept config (ks ++ k ∷ []) ps new next × (archive_of config (ks ++ k ∷ []) ps ≡ appended_as a (entry_of k))) (sym places_are) (
@@ -224,9 +223,9 @@ module _ (config : Config) (ks : List Kept) (places hidden : List (Option KeptPl
     order = subst (λ (es : List Entry). Rise 1 0 es) (sym added) (rise_more 1 0 (entries_of ks) last_entry kept.order tt (omega arith) (none_asked k.number (entries_of ks)) (older config ks places index end_ next k kept may after));
     deletions = subst (λ (es : List Entry). AtEachPlace (λ (before : List Entry) (e : Entry). EndsLive e.kind before e) [] es) (sym added) (place-push (λ (before : List Entry) (e : Entry). EndsLive e.kind before e) [] (entries_of ks) last_entry kept.deletions shown);
     ids = subst (λ (es : List Entry). AtEachPlace LiveDiffer [] es) (sym added) fewer_ids;
-    blobs = subst (λ (es : List Entry). BlobsAgree es) (sym added) (blobs_more (entries_of ks) last_entry kept.blobs (agrees-alone (entries_of ks) k.text may.alone));
+    blobs = subst (λ (es : List Entry). BlobsAgree config.form es) (sym added) (blobs_more config.form (entries_of ks) last_entry kept.blobs (agrees-alone config.form (entries_of ks) k.text may.alone));
     named = subst (λ (es : List Entry). AllByRecursion HasId es) (sym added) (all_after HasId (entries_of ks) last_entry kept.named may.named);
-    indexed = subst (λ (es : List Entry). IsArchiveIndex es new) (sym added) (IsArchiveIndex-ends (entries_of ks) k.number k.epoch k.text k.moment 1 0 index new id kept.indexed kept.order (ids-now (entries_of ks) kept.ids) shown own lost);
+    indexed = subst (λ (es : List Entry). IsArchiveIndex config.form es new) (sym added) (IsArchiveIndex-ends (entries_of ks) k.number k.epoch k.text k.moment 1 0 index new id kept.indexed kept.order (ids-now (entries_of ks) kept.ids) shown own lost);
     lines = lines_are config ks places index end_ next k kept may after;
     last = last_is config ks places index end_ next k kept may after;
     ends = ends_are config ks places index end_ next k kept may after;

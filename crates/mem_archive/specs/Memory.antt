@@ -21,7 +21,7 @@ use Rattle.mem_archive.specs.declared.kept.Kept.{Kept}
 use Rattle.mem_archive.specs.declared.kept.KeptPlace.{KeptPlace}
 use Rattle.mem_archive.specs.declared.kept.End.{End}
 use Rattle.arch_base.specs.declared.sequence.NoMemory.{NoMemory}
-use Rattle.arch_base.specs.declared.ids.Form.TheVariants as form
+use Rattle.arch_base.specs.declared.ids.Form.{Form}
 use Rattle.arch_judge.specs.Indexes.{IsArchiveIndex}
 use Rattle.arch_judge.specs.declared.index.Index.{Index}
 use Rattle.arch_judge.specs.declared.judging.Verdict.{Verdict}
@@ -42,22 +42,22 @@ abbrev pub entries_of : List Kept → List Entry
 entries_of [] = []
 entries_of (k ∷ ks) = entry_of k ∷ entries_of ks
 
--- A kept entry without its text.
-abbrev pub line_of : Kept → EntryLine
-line_of k = record {
+-- A kept entry without its text, with the blob id in a form.
+abbrev pub line_of : Form → Kept → EntryLine
+line_of form k = record {
   kind = k.kind;
   number = k.number;
   epoch = k.epoch;
   secs = k.moment;
-  blob = blob_id_of form.Sha1 k.text;
+  blob = blob_id_of form k.text;
   size = length k.text;
   commit = k.commit;
 }
 
--- Kept entries without their texts.
-abbrev pub lines_of : List Kept → List EntryLine
-lines_of [] = []
-lines_of (k ∷ ks) = line_of k ∷ lines_of ks
+-- Kept entries without their texts, with blob ids in a form.
+abbrev pub lines_of : Form → List Kept → List EntryLine
+lines_of form [] = []
+lines_of form (k ∷ ks) = line_of form k ∷ lines_of form ks
 
 -- The archive of kept entries, whose messages have the places of the numbers from 1 on.
 abbrev pub archive_of : Config → List Kept → List (Option KeptPlace) → Archive
@@ -156,20 +156,22 @@ HasId e = IsSome (own_id e.text)
 -- What may be kept: no live message has the text's own id, no other text has its blob id, and a
 -- number is left. A text is never still to be compared.
 abbrev pub MayKeep : Archive → Verdict → Type 0
-MayKeep a (Take text ids number) = IsFree (live a.entries) text × (ids ≡ text_ids_of form.Sha1 text)
-    × (collision a.entries text ≡ None) × (a.next ≤ a.config.max) × (number ≡ a.next)
+MayKeep a (Take text ids number) = IsFree (live a.entries) text
+    × (ids ≡ text_ids_of a.config.form text) × (collision a.config.form a.entries text ≡ None)
+    × (a.next ≤ a.config.max) × (number ≡ a.next)
 MayKeep a (Refuse reply) = Unit {0}
 
--- The end holds the room and the last commit of its epoch.
-pub record IsEpochEnd (limit : ℕ) (entries : List Entry) (end_ : End) : Type 0 where
-  pub room : end_.room ≡ limit - length (epoch_bytes (in_epoch entries end_.epoch))
-  pub parent : end_.parent ≡ last_commit None (in_epoch entries end_.epoch)
+-- The end holds the room and the last commit of its epoch, whose objects have this form.
+pub record IsEpochEnd (form : Form) (limit : ℕ) (entries : List Entry) (end_ : End) : Type 0 where
+  pub room : end_.room ≡ limit - length (epoch_bytes form (in_epoch entries end_.epoch))
+  pub parent : end_.parent ≡ last_commit form None (in_epoch entries end_.epoch)
   pub small : end_.epoch ≤ greatest_epoch
 
 -- What is kept is sound: the settings are valid, no number is above the greatest, each has its
 -- place or no message, numbers are from 1 to the last and rise, deletions end live messages, each
--- text has an own id, live ids differ at each place, each blob id has one text, the index is that of
--- the entries, each has the id of its commit, and the end is that of the last epoch.
+-- text has an own id, live ids differ at each place, each blob id of the settings' form has one text,
+-- the index is that of the entries, each has the id of its commit, and the end is that of the last
+-- epoch.
 pub record IsKept (config : Config) (kept : List Kept) (places : List (Option KeptPlace)) (index : Index)
     (end_ : End) : Type 0 where
   pub settings : IsConfig config
@@ -180,17 +182,18 @@ pub record IsKept (config : Config) (kept : List Kept) (places : List (Option Ke
   pub deletions : AtEachPlace (λ (before : List Entry) (e : Entry). EndsLive e.kind before e) []
       (entries_of kept)
   pub ids : AtEachPlace LiveDiffer [] (entries_of kept)
-  pub blobs : BlobsAgree (entries_of kept)
+  pub blobs : BlobsAgree config.form (entries_of kept)
   pub named : AllByRecursion HasId (entries_of kept)
-  pub indexed : IsArchiveIndex (entries_of kept) index
-  pub lines : lines_of kept ≡ lines_after [] (entries_of kept)
+  pub indexed : IsArchiveIndex config.form (entries_of kept) index
+  pub lines : lines_of config.form kept ≡ lines_after config.form [] (entries_of kept)
   pub last : end_.epoch ≡ last_epoch (entries_of kept)
-  pub ends : IsEpochEnd config.limit (entries_of kept) end_
+  pub ends : IsEpochEnd config.form config.limit (entries_of kept) end_
 
--- The bytes before those of an entry: an epoch's first bytes, if the entry has no parent.
-abbrev pub front_bytes : Option ObjectId → List ℕ
-front_bytes None = magic form.Sha1
-front_bytes (Some id) = []
+-- The bytes before those of an entry: the first bytes of an epoch of a form, if the entry has no
+-- parent.
+abbrev pub front_bytes : Form → Option ObjectId → List ℕ
+front_bytes form None = magic form
+front_bytes form (Some id) = []
 
 -- The end to which a new entry is appended, if the last epoch has `room` bytes left.
 abbrev pub end_by_room : ℕ → ℕ → End → End
@@ -206,24 +209,25 @@ abbrev pub end_in_epoch : ℕ → ℕ → End → End
 end_in_epoch epoch limit end_ = if end_.epoch == epoch then end_
     else record { epoch = epoch; room = limit; parent = None }
 
--- The end after one more entry.
-abbrev pub end_after : End → EntryKind → List ℕ → ℕ → End
-end_after end_ kind text moment = record {
+-- The end after one more entry, whose objects have this form.
+abbrev pub end_after : Form → End → EntryKind → List ℕ → ℕ → End
+end_after form end_ kind text moment = record {
   epoch = end_.epoch;
-  room = end_.room - length (front_bytes end_.parent ++ entry_bytes form.Sha1 kind text moment end_.parent);
-  parent = Some (commit_id form.Sha1 kind text moment end_.parent);
+  room = end_.room
+      - length (front_bytes form end_.parent ++ entry_bytes form kind text moment end_.parent);
+  parent = Some (commit_id form kind text moment end_.parent);
 }
 
 -- The new bytes start with the old ones.
 abbrev pub BytesGrow : List ℕ → List ℕ → Type 0
 BytesGrow old new = take (length old) new ≡ old
 
--- The bytes of an epoch were appended, and it is told whether it has an entry. `NoMemory` leaves
--- the bytes unchanged.
-abbrev pub GivesEpoch : List ℕ → List ℕ → Result Bool NoMemory → List Entry → Type 0
-GivesEpoch old new (Ok found) entries = (new ≡ old ++ epoch_bytes entries)
+-- The bytes in a form of an epoch were appended, and it is told whether it has an entry. `NoMemory`
+-- leaves the bytes unchanged.
+abbrev pub GivesEpoch : Form → List ℕ → List ℕ → Result Bool NoMemory → List Entry → Type 0
+GivesEpoch form old new (Ok found) entries = (new ≡ old ++ epoch_bytes form entries)
     × (found ≡ has_entry entries)
-GivesEpoch old new (Err refused) entries = new ≡ old
+GivesEpoch form old new (Err refused) entries = new ≡ old
 
 -- The number of a message isn't below the next one, and its own id is free. A deletion has the number
 -- and the text of a live message.
@@ -239,7 +243,7 @@ pub record EntryMayFollow (a : Archive) (e : Entry) : Type 0 where
   pub epoch : last_epoch a.entries ≤ e.epoch
   pub small : e.epoch ≤ greatest_epoch
   pub named : HasId e
-  pub alone : collision a.entries e.text ≡ None
+  pub alone : collision a.config.form a.entries e.text ≡ None
   pub numbered : IsNumberedAfter e.kind a e
 
 -- The archive with an entry appended as it is. A message's number may leave out others, which then
@@ -257,7 +261,7 @@ numbered_to a next = record { config = a.config; entries = a.entries; next = gre
 
 -- The end and the commit after an entry that is appended so.
 pub record IsEndAfter (a : Archive) (e : Entry) (commit : ObjectId) (end_ : End) : Type 0 where
-  pub ends : IsEpochEnd a.config.limit (a.entries ++ e ∷ []) end_
+  pub ends : IsEpochEnd a.config.form a.config.limit (a.entries ++ e ∷ []) end_
   pub epoch : end_.epoch ≡ e.epoch
-  pub commit_is : commit
-      ≡ commit_id form.Sha1 e.kind e.text e.moment (last_commit None (in_epoch a.entries e.epoch))
+  pub commit_is : commit ≡ commit_id a.config.form e.kind e.text e.moment
+      (last_commit a.config.form None (in_epoch a.entries e.epoch))

@@ -1,7 +1,6 @@
 //! What the archive in memory keeps of each entry, and of its last epoch.
 //! Allocates.
 ghost use Rattle.std.specs.Prelude.{◌≡◌, ◌++◌, ◌≤◌, IfOk, OnOk, OnErr, is_ok, if◌then◌else◌};
-ghost use Rattle.arch_base.specs.declared.ids.Form.TheVariants as form;
 ghost use Rattle.disk_model.specs.Sizes.{greatest_epoch};
 ghost use Rattle.git_objects.specs.Objects.{blob_id_of};
 ghost use Rattle.mail_commits.specs.Entries.{commit_id, entry_bytes};
@@ -32,16 +31,16 @@ pub(crate) struct Kept {
 }
 
 impl Kept {
-    /// Returns the entry without its text.
-    pub(crate) fn line(&self) -> EntryLine
-        ensures { result ≡ line_of self.now }
+    /// Returns the entry without its text, with the blob id in a form.
+    pub(crate) fn line(&self, form: Form) -> EntryLine
+        ensures { result ≡ line_of form self.now }
     {
         EntryLine {
             kind: self.kind,
             number: self.number,
             epoch: self.epoch,
             secs: self.moment,
-            blob: blob_id(self.text.as_slice(), Form::Sha1),
+            blob: blob_id(self.text.as_slice(), form),
             size: self.text.as_slice().len() as u64,
             commit: self.commit,
         }
@@ -94,19 +93,16 @@ impl End {
         self,
         alloc: Global,
         limit: u64,
-        kind: EntryKind,
-        text: &[u8],
+        entry: &EntryText<'_>,
         blob: &ObjectId,
-        moment: u64,
     ) -> Result<End, NoMemory>
         requires epoch { self.epoch ≤ greatest_epoch }
-        requires blob { blob.now ≡ blob_id_of form.Sha1 text.now }
-        ensures { IfOk result (λ made.
-            made ≡ end_after (end_for_new limit self) kind text.now moment) }
+        requires blob { blob.now ≡ blob_id_of entry.now.form entry.now.text.now }
+        ensures { IfOk result (λ made. made ≡ end_after entry.now.form (end_for_new limit self)
+            entry.now.kind entry.now.text.now entry.now.moment) }
     {
         let room = self.room;
-        self.for_new(room, limit)
-            .after(alloc, kind, text, blob, moment)
+        self.for_new(room, limit).after(alloc, entry, blob)
     }
 
     /// Returns the end to which a new entry is appended, if the last epoch has `room` bytes left.
@@ -148,16 +144,15 @@ impl End {
     pub(crate) fn after(
         self,
         alloc: Global,
-        kind: EntryKind,
-        text: &[u8],
+        entry: &EntryText<'_>,
         blob: &ObjectId,
-        moment: u64,
     ) -> Result<End, NoMemory>
-        requires { blob.now ≡ blob_id_of form.Sha1 text.now }
-        ensures { IfOk result (λ made. made ≡ end_after self kind text.now moment) }
+        requires { blob.now ≡ blob_id_of entry.now.form entry.now.text.now }
+        ensures { IfOk result (λ made. made
+            ≡ end_after entry.now.form self entry.now.kind entry.now.text.now entry.now.moment) }
     {
         let mut bytes = Bytes::new(alloc);
-        let commit = push_after(alloc, kind, text, blob, moment, self.parent, &mut bytes)?;
+        let commit = push_after(alloc, entry, blob, self.parent, &mut bytes)?;
         Ok(End {
             epoch: self.epoch,
             room: self.room.saturating_sub(bytes.as_slice().len() as u64),
@@ -172,38 +167,31 @@ impl End {
 /// part appended.
 pub(crate) fn push_after(
     alloc: Global,
-    kind: EntryKind,
-    text: &[u8],
+    entry: &EntryText<'_>,
     blob: &ObjectId,
-    moment: u64,
     parent: Option<ObjectId>,
     into: &mut Bytes,
 ) -> Result<ObjectId, NoMemory>
-    requires { blob.now ≡ blob_id_of form.Sha1 text.now }
-    ensures id { IfOk result (λ id. id ≡ commit_id form.Sha1 kind text.now moment parent) }
-    ensures ok { OnOk result (into.new
-        ≡ into.old ++ (front_bytes parent ++ entry_bytes form.Sha1 kind text.now moment parent)) }
+    requires { blob.now ≡ blob_id_of entry.now.form entry.now.text.now }
+    ensures id { IfOk result (λ id. id
+        ≡ commit_id entry.now.form entry.now.kind entry.now.text.now entry.now.moment parent) }
+    ensures ok { OnOk result (into.new ≡ into.old ++ (front_bytes entry.now.form parent
+        ++ entry_bytes entry.now.form entry.now.kind entry.now.text.now entry.now.moment parent)) }
     ensures err { OnErr result (BytesGrow into.old into.new) }
 {
-    push_front(parent, into)?;
-    let entry = EntryText {
-        form: Form::Sha1,
-        kind,
-        text,
-        moment,
-    };
-    let ids = push_entry(alloc, &entry, blob, parent, into)?;
+    push_front(entry.form, parent, into)?;
+    let ids = push_entry(alloc, entry, blob, parent, into)?;
     Ok(ids.commit)
 }
 
-/// Appends the first bytes of an epoch if an entry has no parent.
+/// Appends the first bytes of an epoch of a form if an entry has no parent.
 ///
 /// `NoMemory` leaves the bytes unchanged.
-fn push_front(parent: Option<ObjectId>, into: &mut Bytes) -> Result<(), NoMemory>
-    ensures { into.new ≡ (if is_ok result then into.old ++ front_bytes parent else into.old) }
+fn push_front(form: Form, parent: Option<ObjectId>, into: &mut Bytes) -> Result<(), NoMemory>
+    ensures { into.new ≡ (if is_ok result then into.old ++ front_bytes form parent else into.old) }
 {
     match parent {
-        None => into.push_slice(&magic(Form::Sha1)),
+        None => into.push_slice(&magic(form)),
         Some(_) => Ok(()),
     }
 }

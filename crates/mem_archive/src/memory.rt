@@ -3,7 +3,6 @@
 ghost use Rattle.std.specs.Prelude.{◌≡◌, ◌+◌, ◌++◌, ◌≤◌, false, not, take, drop, length, option_copied, IfOk, OnOk, OnErr, IsSome, Some, None};
 ghost use Rattle.std.specs.Str.{bytes_eq};
 ghost use Rattle.arch_base.specs.Configs.{IsConfig};
-ghost use Rattle.arch_base.specs.declared.ids.Form.TheVariants as form;
 ghost use Rattle.mail_reader.specs.Stored.{stored as stored_of};
 ghost use Rattle.mail_reader.specs.Ids.{own_id as own_id_of};
 ghost use Rattle.git_objects.specs.Objects.{blob_id_of};
@@ -23,11 +22,11 @@ ghost use Rattle.git_objects.specs.declared.entry_kind.EntryKind.{EntryKind};
 
 use crate::kept::{End, Kept, KeptPlace, push_after};
 use crate::placing::{count_live, greatest_live, hide, least_live, once_at, place_of, shown_at};
-use arch_base::{Bytes, Config, Form, MessageNumbers, NoMemory, ObjectId};
+use arch_base::{Bytes, Config, MessageNumbers, NoMemory, ObjectId};
 use arch_judge::{Index, Judgement, Owner, Verdict, compared, judge};
 use arch_model::{Answer, Command, EntryLine, Query, Row};
 use git_objects::{EntryKind, blob_id};
-use mail_commits::{TextIds, text_ids};
+use mail_commits::{EntryText, TextIds, text_ids};
 use mail_reader::{StoredRefusal, own_id, stored};
 use std::alloc::Global;
 use std::marker::Model;
@@ -56,7 +55,7 @@ impl Model for MemArchive {
     ghost view = { λ m. archive_of m.config m.kept.items m.places.items };
 
     ghost invariant = { λ m. IsKept m.config m.kept.items m.places.items m.index m.end
-        × (m.views ≡ views_of (live (entries_of m.kept.items))) };
+        × (m.views ≡ views_of m.config.form (live (entries_of m.kept.items))) };
 }
 
 impl MemArchive {
@@ -130,7 +129,7 @@ impl MemArchive {
 
     /// Returns the row of a live message, or `None` if the number is not live.
     pub(crate) fn row_at(&self, number: u32) -> Option<&Row>
-        ensures { option_copied result ≡ row_in (live self.now.entries) number }
+        ensures { option_copied result ≡ row_in self.now.config.form (live self.now.entries) number }
     {
         self.views.get(number)
     }
@@ -184,17 +183,18 @@ impl MemArchive {
 
     /// Returns the entry at an index, from 0, without its text, or `None` if there are not so many.
     pub(crate) fn line(&self, index: u64) -> Option<EntryLine>
-        ensures { result ≡ line_at self.now.entries index }
+        ensures { result ≡ line_at self.now.config.form self.now.entries index }
     {
         match self.kept.as_slice().get(index as usize) {
             None => None,
-            Some(kept) => Some(kept.line()),
+            Some(kept) => Some(kept.line(self.config.form)),
         }
     }
 
     /// Returns the text of the entries with this blob id, or `None` if there is none.
     pub(crate) fn text_of_blob(&self, blob: &ObjectId) -> Option<&[u8]>
-        ensures { option_copied result ≡ blob_text self.now.entries blob.now }
+        ensures { option_copied result
+            ≡ blob_text self.now.config.form self.now.entries blob.now }
     {
         match self.index.number(blob) {
             None => None,
@@ -213,7 +213,8 @@ impl MemArchive {
     ///
     /// `NoMemory` leaves the bytes unchanged.
     pub fn push_epoch(&self, epoch: u32, into: &mut Bytes) -> Result<bool, NoMemory>
-        ensures { GivesEpoch into.old into.new result (in_epoch self.now.entries epoch) }
+        ensures { GivesEpoch self.now.config.form into.old into.new result
+            (in_epoch self.now.entries epoch) }
     {
         let len = into.as_slice().len();
         match self.push_entries(epoch, into) {
@@ -231,21 +232,20 @@ impl MemArchive {
     fn push_entries(&self, epoch: u32, into: &mut Bytes) -> Result<bool, NoMemory>
         ensures found { IfOk result (λ found. found ≡ has_entry (in_epoch self.now.entries epoch)) }
         ensures ok { OnOk result (into.new
-            ≡ into.old ++ epoch_bytes (in_epoch self.now.entries epoch)) }
+            ≡ into.old ++ epoch_bytes self.now.config.form (in_epoch self.now.entries epoch)) }
         ensures err { OnErr result (BytesGrow into.old into.new) }
     {
         let mut parent = None;
         for kept in self.kept.as_slice() {
             if kept.epoch == epoch {
-                parent = Some(push_after(
-                    self.alloc,
-                    kept.kind,
-                    kept.text.as_slice(),
-                    &blob_id(kept.text.as_slice(), Form::Sha1),
-                    kept.moment,
-                    parent,
-                    into,
-                )?);
+                let entry = EntryText {
+                    form: self.config.form,
+                    kind: kept.kind,
+                    text: kept.text.as_slice(),
+                    moment: kept.moment,
+                };
+                let blob = blob_id(entry.text, entry.form);
+                parent = Some(push_after(self.alloc, &entry, &blob, parent, into)?);
             }
         }
         Ok(parent.is_some())
@@ -302,8 +302,8 @@ impl MemArchive {
     /// Keeps a message under the next number, and answers with that number.
     fn take(&mut self, text: Bytes, ids: TextIds, number: u32, moment: u64) -> Answer
         requires free { IsFree (live self.old.entries) text }
-        requires ids { ids ≡ text_ids_of form.Sha1 text }
-        requires alone { collision self.old.entries text ≡ None }
+        requires ids { ids ≡ text_ids_of self.old.config.form text }
+        requires alone { collision self.old.config.form self.old.entries text ≡ None }
         requires room { self.old.next ≤ self.old.config.max }
         ensures done { Delivers self.old result self.new (record {
           archive = with_entry self.old
@@ -359,7 +359,7 @@ impl MemArchive {
         ensures done { Delivers self.old result self.new (removed self.old number moment) }
         ensures untouched { IsUntouched result self.old self.new }
     {
-        let id = blob_id(text.as_slice(), Form::Sha1);
+        let id = blob_id(text.as_slice(), self.config.form);
         match self.push_deletion(number, text, &id, moment) {
             Ok(()) => Answer::Ok { number, id },
             Err(NoMemory) => Answer::NoMemory,
@@ -377,20 +377,21 @@ impl MemArchive {
         moment: u64,
     ) -> Result<(), NoMemory>
         requires live { text_of (live self.old.entries) number ≡ Some text }
-        requires blob { blob.now ≡ blob_id_of form.Sha1 text }
+        requires blob { blob.now ≡ blob_id_of self.old.config.form text }
         ensures ok { OnOk result (self.new
             ≡ with_deletion self.old number (new_epoch self.old) text moment) }
         ensures err { OnErr result (self.new ≡ self.old) }
     {
         let kind = EntryKind::Deletion;
-        let end = self.end.with(
-            self.alloc,
-            self.config.limit,
+        let spelled = EntryText {
+            form: self.config.form,
             kind,
-            text.as_slice(),
-            blob,
+            text: text.as_slice(),
             moment,
-        )?;
+        };
+        let end = self
+            .end
+            .with(self.alloc, self.config.limit, &spelled, blob)?;
         let commit = end.parent.unwrap();
         let entry = Kept {
             kind,
@@ -414,7 +415,7 @@ impl MemArchive {
         let Some(text) = self.text_once(number) else {
             return Answer::NoText(number);
         };
-        let id = blob_id(text, Form::Sha1);
+        let id = blob_id(text, self.config.form);
         match self.without_text(text) {
             Ok(without) => {
                 *self = without;
@@ -489,9 +490,14 @@ impl MemArchive {
         ensures { OnOk result (self.new ≡ appended_as self.old (entry_of kept.now)) }
     {
         let begin = self.end.in_epoch(kept.epoch, self.config.limit);
-        let text = kept.text.as_slice();
-        let ids = text_ids(text, Form::Sha1);
-        let end = begin.after(self.alloc, kept.kind, text, &ids.blob, kept.moment)?;
+        let spelled = EntryText {
+            form: self.config.form,
+            kind: kept.kind,
+            text: kept.text.as_slice(),
+            moment: kept.moment,
+        };
+        let ids = text_ids(spelled.text, spelled.form);
+        let end = begin.after(self.alloc, &spelled, &ids.blob)?;
         let commit = end.parent.unwrap();
         let entry = kept.copy(self.alloc, commit)?;
         match kept.kind {
@@ -507,7 +513,7 @@ impl MemArchive {
     ///
     /// `NoMemory` leaves the archive unchanged.
     fn append_message(&mut self, entry: Kept, ids: &TextIds, end: End) -> Result<(), NoMemory>
-        requires ids { ids.now ≡ text_ids_of form.Sha1 entry.text }
+        requires ids { ids.now ≡ text_ids_of self.old.config.form entry.text }
         requires follows { EntryMayFollow self.old (entry_of entry) }
         requires number { entry.number ≡ self.old.next }
         requires ends { IsEndAfter self.old (entry_of entry) entry.commit end }
@@ -599,22 +605,23 @@ impl MemArchive {
     ///
     /// `NoMemory` leaves the archive unchanged.
     fn keep(&mut self, text: Bytes, ids: &TextIds, moment: u64) -> Result<(), NoMemory>
-        requires ids { ids.now ≡ text_ids_of form.Sha1 text }
+        requires ids { ids.now ≡ text_ids_of self.old.config.form text }
         requires free { IsFree (live self.old.entries) text }
-        requires alone { collision self.old.entries text ≡ None }
+        requires alone { collision self.old.config.form self.old.entries text ≡ None }
         requires room { self.old.next ≤ self.old.config.max }
         ensures ok { OnOk result (self.new ≡ with_entry self.old (new_epoch self.old) text moment) }
         ensures err { OnErr result (self.new ≡ self.old) }
     {
         let kind = EntryKind::Message;
-        let end = self.end.with(
-            self.alloc,
-            self.config.limit,
+        let spelled = EntryText {
+            form: self.config.form,
             kind,
-            text.as_slice(),
-            &ids.blob,
+            text: text.as_slice(),
             moment,
-        )?;
+        };
+        let end = self
+            .end
+            .with(self.alloc, self.config.limit, &spelled, &ids.blob)?;
         let commit = end.parent.unwrap();
         let number = self.next();
         let entry = Kept {

@@ -18,7 +18,7 @@ pub invariant_of-self-2 : goal.invariant_of-self-2
 invariant_of-self-2 c = (
   (ends-kept c.self.inside.config c.self.inside.kept.items c.self.inside.places.items c.hide.new.places.items c.self.inside.index c.remove.new.self c.self.inside.end c.args.end c.args.entry c.as_slice.result.now c.in_ok-id.id.items
       c.args.self.now c.self.view_is c.self.invariant.0 c.requires.follows c.requires.kind c.requires.ends c.in_ok-id.ensures c.as_slice.ensures c.as_slice-2.result.now c.as_slice-2.ensures.value c.remove.ensures.lost c.hide.ensures c.push.new.self.items c.in_ok-push.ensures.items).0,
-  views-deletion (entries_of c.self.inside.kept.items) (entries_of c.push.new.self.items) c.args.entry.number c.args.entry.epoch c.args.entry.text c.args.entry.moment c.self.inside.views c.take.new.self
+  views-deletion c.self.inside.config.form (entries_of c.self.inside.kept.items) (entries_of c.push.new.self.items) c.args.entry.number c.args.entry.epoch c.args.entry.text c.args.entry.moment c.self.inside.views c.take.new.self
       (ap entries_of c.in_ok-push.ensures.items ∙ entries_of-push c.self.inside.kept.items c.args.entry ∙ ap (λ (e : Entry). entries_of c.self.inside.kept.items ++ e ∷ []) (of-kind c.args.entry Deletion c.requires.kind)) c.self.invariant.0.order c.self.invariant.1 c.take.ensures,
 )
 

@@ -11,5 +11,5 @@ pub returns : goal.returns
 returns c =
     let es = live c.args.self.now.entries in
     IfOk-weaker c.search.result (λ ns. ns ≡ searched c.args.query.now c.self.inside.views) (λ ns. ns ≡ search c.args.query.now es)
-    (λ ns is. is ∙ ap (searched c.args.query.now) (c.self.invariant.1 ∙ ap (λ (a : Archive). views_of (live a.entries)) c.self.view_is)
+    (λ ns is. is ∙ ap (searched c.args.query.now) (c.self.invariant.1 ∙ ap (λ (a : Archive). views_of a.config.form (live a.entries)) c.self.view_is)
     ∙ found-kept c.self.inside.config c.self.inside.kept.items c.self.inside.places.items c.self.inside.index c.self.inside.end c.args.self.now c.self.view_is c.self.invariant.0 c.args.query.now) c.search.ensures

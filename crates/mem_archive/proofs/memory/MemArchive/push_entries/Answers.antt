@@ -1,7 +1,6 @@
 use Rattle.std.proofs.Common.{◌≡◌, ◌==◌, ◌++◌, ◌∙◌, ◌≤◌, ◌<◌, ℕ, List, length, get_or, Some, false, ap, arith}
 use Rattle.std.proofs.lemmas.Bool.Decides.{nat_tests}
 use Rattle.arch_base.specs.declared.ids.ObjectId.{ObjectId}
-use Rattle.arch_base.specs.declared.ids.Form.TheVariants as form
 use Rattle.mail_commits.specs.Entries.{commit_id, entry_bytes}
 use Rattle.mem_archive.specs.Memory.{front_bytes}
 use Rattle.mem_archive.proofs.EpochSteps.{pushed-one, pushed-else, pushed-all}
@@ -15,17 +14,17 @@ loop-kept-preserved c =
     let at : c.kept-item.result ≡ get_or c.self.inside.kept.items c.loop-kept.kept-index c.kept-item.result = rw items at c.kept-item.is in
     elim c.if-kept-epoch.branch [
       | then-kept-epoch+in_ok-push_after w ↦ (
-          let text : w.as_slice.result.now ≡ c.kept-item.result.text = w.as_slice.ensures in
+          let text : w.as_slice-entry.result.now ≡ c.kept-item.result.text = w.as_slice-entry.ensures in
           let same : c.kept-item.result.epoch ≡ c.args.epoch = grind (arith, nat_tests, w.if-kept-epoch.true) in
-          let more = pushed-one c.self.inside.kept.items c.args.epoch c.args.into.now c.loop-kept.kept-index c.kept-item.result c.loop-kept.into c.loop-kept.parent below at same c.loop-kept.invariant in
-          let into : c.if-kept-epoch.into ≡ c.loop-kept.into ++ (front_bytes c.loop-kept.parent ++ entry_bytes form.Sha1 c.kept-item.result.kind c.kept-item.result.text c.kept-item.result.moment c.loop-kept.parent) =
-          w.into-is ∙ w.in_ok-push_after.ensures.ok ∙ ap (λ (t : List ℕ). c.loop-kept.into ++ (front_bytes c.loop-kept.parent ++ entry_bytes form.Sha1 c.kept-item.result.kind t c.kept-item.result.moment c.loop-kept.parent)) text in
-          let parent : c.if-kept-epoch.parent ≡ Some (commit_id form.Sha1 c.kept-item.result.kind c.kept-item.result.text c.kept-item.result.moment c.loop-kept.parent) =
-          w.parent-is ∙ ap (λ (i : ObjectId). Some i) w.in_ok-push_after.ensures.id ∙ ap (λ (t : List ℕ). Some (commit_id form.Sha1 c.kept-item.result.kind t c.kept-item.result.moment c.loop-kept.parent)) text in
+          let more = pushed-one c.self.inside.config.form c.self.inside.kept.items c.args.epoch c.args.into.now c.loop-kept.kept-index c.kept-item.result c.loop-kept.into c.loop-kept.parent below at same c.loop-kept.invariant in
+          let into : c.if-kept-epoch.into ≡ c.loop-kept.into ++ (front_bytes c.self.inside.config.form c.loop-kept.parent ++ entry_bytes c.self.inside.config.form c.kept-item.result.kind c.kept-item.result.text c.kept-item.result.moment c.loop-kept.parent) =
+          w.into-is ∙ w.in_ok-push_after.ensures.ok ∙ ap (λ (t : List ℕ). c.loop-kept.into ++ (front_bytes c.self.inside.config.form c.loop-kept.parent ++ entry_bytes c.self.inside.config.form c.kept-item.result.kind t c.kept-item.result.moment c.loop-kept.parent)) text in
+          let parent : c.if-kept-epoch.parent ≡ Some (commit_id c.self.inside.config.form c.kept-item.result.kind c.kept-item.result.text c.kept-item.result.moment c.loop-kept.parent) =
+          w.parent-is ∙ ap (λ (i : ObjectId). Some i) w.in_ok-push_after.ensures.id ∙ ap (λ (t : List ℕ). Some (commit_id c.self.inside.config.form c.kept-item.result.kind t c.kept-item.result.moment c.loop-kept.parent)) text in
           (into ∙ more.0, parent ∙ more.1))
       | else-kept-epoch w ↦ (
           let other : (c.kept-item.result.epoch == c.args.epoch) ≡ false = grind (arith, nat_tests, w.if-kept-epoch.false) in
-          let more = pushed-else c.self.inside.kept.items c.args.epoch c.args.into.now c.loop-kept.kept-index c.kept-item.result c.loop-kept.into c.loop-kept.parent below at other c.loop-kept.invariant in
+          let more = pushed-else c.self.inside.config.form c.self.inside.kept.items c.args.epoch c.args.into.now c.loop-kept.kept-index c.kept-item.result c.loop-kept.into c.loop-kept.parent below at other c.loop-kept.invariant in
           (w.into-is ∙ more.0, w.parent-is ∙ more.1))
     ]
 

@@ -6,4 +6,4 @@ use Rattle.view_set.specs.Viewed.{Viewed, views_of}
 use Rattle.mem_archive.proofs.memory.MemArchive.row_at.Goals as goal
 
 pub returns : goal.returns
-returns c = c.get.ensures ∙ ap (λ (v : Viewed). row_in v.rows c.args.number) (c.self.invariant.1 ∙ ap (λ (a : Archive). views_of (live a.entries)) c.self.view_is) ∙ row-is (live c.args.self.now.entries) c.args.number
+returns c = c.get.ensures ∙ ap (λ (v : Viewed). row_in v.rows c.args.number) (c.self.invariant.1 ∙ ap (λ (a : Archive). views_of a.config.form (live a.entries)) c.self.view_is) ∙ row-is c.args.self.now.config.form (live c.args.self.now.entries) c.args.number

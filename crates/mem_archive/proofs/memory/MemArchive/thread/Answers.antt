@@ -11,4 +11,4 @@ pub returns : goal.returns
 returns c =
     let es = live c.args.self.now.entries in
     IfOk-weaker c.thread_of.result (λ ns. ns ≡ thread_in c.self.inside.views.rows c.args.number) (λ ns. ns ≡ threaded es c.args.number)
-    (λ ns is. is ∙ ap (λ (v : Viewed). thread_in v.rows c.args.number) (c.self.invariant.1 ∙ ap (λ (a : Archive). views_of (live a.entries)) c.self.view_is) ∙ threads-are es c.args.number) c.thread_of.ensures.members
+    (λ ns is. is ∙ ap (λ (v : Viewed). thread_in v.rows c.args.number) (c.self.invariant.1 ∙ ap (λ (a : Archive). views_of a.config.form (live a.entries)) c.self.view_is) ∙ threads-are c.args.self.now.config.form es c.args.number) c.thread_of.ensures.members

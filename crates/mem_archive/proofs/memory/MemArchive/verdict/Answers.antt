@@ -24,7 +24,7 @@ pub returns-in-Some : goal.returns-in-Some
 returns-in-Some c =
     let known : IsKnownBy c.self.inside.config c.self.inside.index c.next-next.result c.args.self.now = kept_known c.self.inside.config c.self.inside.kept.items c.self.inside.places.items c.self.inside.index c.self.inside.end c.args.self.now c.self.view_is c.self.invariant.0 c.next-next.result c.next-next.ensures in
     let taken = c.in-Compare.ensures.taken in
-    let text_is : blob_text c.args.self.now.entries c.in-Compare.ids.blob ≡ Some c.in-Some.kept.now = compared-with c.self.inside.config c.self.inside.kept.items c.self.inside.places.items c.self.inside.index c.self.inside.end c.args.self.now c.self.view_is c.self.invariant.0 c.in-Compare.ids.blob c.in-Compare.number c.in-Some.kept.now taken.1 c.in-Some.ensures in
+    let text_is : blob_text c.args.self.now.config.form c.args.self.now.entries c.in-Compare.ids.blob ≡ Some c.in-Some.kept.now = compared-with c.self.inside.config c.self.inside.kept.items c.self.inside.places.items c.self.inside.index c.self.inside.end c.args.self.now c.self.view_is c.self.invariant.0 c.in-Compare.ids.blob c.in-Compare.number c.in-Some.kept.now taken.1 c.in-Some.ensures in
     record {
       judged = c.compared.ensures.judged c.args.self.now c.args.bytes.now known.config_is known.next_is
           (compared-decides c.self.inside.config c.self.inside.kept.items c.self.inside.places.items c.self.inside.index c.self.inside.end c.args.self.now c.self.view_is c.self.invariant.0 c.args.bytes.now c.in-Compare.text c.in-Compare.ids.blob c.in-Compare.number c.in-Some.kept.now (c.in-Compare.ensures.judged c.args.self.now known) text_is);
