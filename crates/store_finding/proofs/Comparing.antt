@@ -2,7 +2,6 @@
 use Rattle.std.specs.Prelude.{◌≡◌, ◌≤◌, ℕ, Bool, List, [], ◌∷◌, slice_get, Option, Some, None, Ok, Err}
 use Rattle.std.specs.Str.{bytes_eq}
 use Rattle.std.proofs.Common.{◌∙◌, inr}
-use Rattle.arch_base.specs.declared.ids.Form.TheVariants as form
 use Rattle.disk_model.specs.Disk.{Files, Content, BothTold, WhereTold, Unchanged, bytes_of}
 use Rattle.arch_model.specs.Archives.{Entry}
 use Rattle.number_map.specs.declared.line.Record.{Record}
@@ -28,7 +27,7 @@ pub both_read : (root : Root) (v : JoinedEntries) (epoch : ℕ) (seen : Seen) (i
     → WhereTold (λ k. IsReadAs root older.epoch older.seen old (as_read k)) before → WhereTold (λ k. IsReadAs root epoch seen new (as_read k)) mid → same ≡ bytes_eq old new → WhereTold (λ k. ComparesText root v epoch seen (Ok same) (as_read k)) before
 both_read root v epoch seen index older old new same before mid among blob kept one two is =
     told_both (IsReadAs root older.epoch older.seen old) (IsReadAs root epoch seen new) (ComparesText root v epoch seen (Ok same)) before mid kept one two
-    (λ files first_text second_text rs after all holds. inr (record {
+    (λ files first_text second_text form rs after all holds. inr (record {
       older = older;
       index = index;
       among = among;
@@ -39,11 +38,11 @@ both_read root v epoch seen index older old new same before mid among blob kept 
 -- Whatever was joined before, and whatever entries an epoch's file has, some have joined.
 abbrev pub Come : Root → JoinedEntries → ℕ → List Seen → JoinedEntries → List Seen → Files → Type 0
 Come root old epoch seen cur left files =
-    (rs after : List Record) (others : List Entry) (here : List EpochEntry) → HoldsJoined old rs after others → AreWhole root files epoch others → Fronts (epoch_of form.Sha1 here) (files (epoch_file_of root epoch)) → AreEpochEntries here → seen ≡ seen_from form.Sha1 8 None here
-    → Comes cur left rs others epoch here
+    (rs after : List Record) (others : List Entry) (here : List EpochEntry) → HoldsJoined root.config.form old rs after others → AreWhole root files epoch others → Fronts (epoch_of root.config.form here) (files (epoch_file_of root epoch)) → AreEpochEntries here → seen ≡ seen_from root.config.form 8 None here
+    → Comes root.config.form cur left rs others epoch here
 
 pub come_first : (root : Root) (old : JoinedEntries) (epoch : ℕ) (seen left : List Seen) (files : Files) → AreBefore epoch old.entries → left ≡ seen → Come root old epoch seen old left files
-come_first root old epoch seen left files before is = λ rs after others here holds whole fronts valid all. comes_first old left rs after others epoch here before holds valid (is ∙ all)
+come_first root old epoch seen left files before is = λ rs after others here holds whole fronts valid all. comes_first root.config.form old left rs after others epoch here before holds valid (is ∙ all)
 
 pub come_more : (root : Root) (old : JoinedEntries) (epoch : ℕ) (seen : List Seen) (cur new : JoinedEntries) (left : List Seen) (s : Seen) (after : List Seen) (files : Files) → epoch ≤ 63 → left ≡ s ∷ after → Come root old epoch seen cur left files → JoinsByText root cur epoch s (Ok new) files
     → Come root old epoch seen new after files
@@ -57,4 +56,4 @@ come_stops root old epoch seen cur left s after refusal files is come joins = λ
 
 pub come_all : (root : Root) (old : JoinedEntries) (epoch : ℕ) (seen : List Seen) (cur : JoinedEntries) (left : List Seen) (files : Files) → left ≡ [] → Come root old epoch seen cur left files → TakesEpoch root old epoch seen (Ok cur) files
 come_all root old epoch seen cur left files none come = λ rs left_records others here holds whole fronts valid all.
-    all_come cur left rs others epoch here (come rs left_records others here holds whole fronts valid all) none
+    all_come root.config.form cur left rs others epoch here (come rs left_records others here holds whole fronts valid all) none

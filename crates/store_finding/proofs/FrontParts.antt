@@ -10,6 +10,7 @@ use Rattle.disk_model.specs.declared.name.FileKind.TheVariants as kind
 use Rattle.disk_model.specs.declared.name.FileName.{FileName}
 use Rattle.disk_model.specs.Name.{kind_index}
 use Rattle.disk_model.specs.Disk.{File, Files, Content, bytes_of}
+use Rattle.disk_model.specs.Sizes.{record_size}
 use Rattle.arch_model.specs.Archives.{Entry, Archive, in_epoch}
 use Rattle.arch_model.specs.Epochs.{epoch_bytes}
 use Rattle.arch_model.specs.Validity.{IsEntry, IsArchive}
@@ -54,7 +55,7 @@ cache_is_named root some =
 
 -- The length of the map that a root names for an archive.
 pub map_long : (root : Root) (a : Archive) → IsArchive a → NamesArchive root a → root.map.length ≡ length (map_bytes a)
-map_long root a valid names = names.is_root.map_length ∙ (ap (λ (n : ℕ). 28 * (n - 1)) names.next ∙ sym (map_length a valid))
+map_long root a valid names = names.is_root.map_length ∙ ((λ i. record_size (names.config i).form * (names.next i - 1)) ∙ sym (map_length a valid))
 
 module _ (root : Root) (a : Archive) (cache : List ℕ) (valid : IsArchive a) (names : NamesArchive root a) (cache_fits : length cache ≤ root.cache.length) where
   -- Each part is as long as the root says, the cache at most so long.
@@ -68,7 +69,7 @@ module _ (root : Root) (a : Archive) (cache : List ℕ) (valid : IsArchive a) (n
     | inl below ↦ sym (names.epochs n below)
     | inr above ↦
         let count = names.fits.count in
-        ap (λ (es : List Entry). length (epoch_bytes es)) (none_above a.entries n valid.entries (omega (arith, above)))
+        ap (λ (es : List Entry). length (epoch_bytes a.config.form es)) (none_above a.entries n valid.entries (omega (arith, above)))
         ∙ sym (ap (λ (p : Place). p.length) (get_or_past root.epochs n no_place (omega (arith, count, above))))
   ]
   parts_fit kind.Cache n = by (n == 0) where

@@ -5,6 +5,7 @@ use Rattle.std.specs.Str.{bytes_eq}
 use Rattle.std.proofs.Common.{◌∙◌, sym, ap, subst, arith}
 use Rattle.std.proofs.lemmas.Slice.Eq.{bytes_eq-Decides}
 use Rattle.std.proofs.lemmas.Bool.Decides.{nat_tests}
+use Rattle.arch_base.specs.declared.ids.Form.{Form}
 use Rattle.git_objects.specs.declared.entry_kind.EntryKind.{EntryKind}
 use Rattle.git_objects.specs.declared.entry_kind.EntryKind.TheVariants.{Message, Deletion}
 use Rattle.mail_reader.specs.Ids.{own_id}
@@ -29,11 +30,11 @@ count_step : (t : Bool) (s : StoredEntry) (e : Entry) (rest : List StoredEntry) 
 count_step true s e rest es more = omega (arith, more)
 count_step false s e rest es more = more
 
-pub kept_count : (before es : List Entry) → message_count (stored_after before es) ≡ length (messages es)
-kept_count before [] = refl
-kept_count before (e ∷ es) =
+pub kept_count : (form : Form) (before es : List Entry) → message_count (stored_after form before es) ≡ length (messages es)
+kept_count form before [] = refl
+kept_count form before (e ∷ es) =
     let more = before ++ e ∷ [] in
-    count_step (is_message e.kind) (stored_at before e) e (filter (λ (s : StoredEntry). is_message s.seen.kind) (stored_after more es)) (messages es) (kept_count more es)
+    count_step (is_message e.kind) (stored_at form before e) e (filter (λ (s : StoredEntry). is_message s.seen.kind) (stored_after form more es)) (messages es) (kept_count form more es)
 
 pub bytes_same : (a b : List ℕ) → bytes_eq a b ≡ true → a ≡ b
 bytes_same a b is = (bytes_eq-Decides a b).0 is

@@ -4,7 +4,9 @@ use Rattle.std.specs.List.{AllByRecursion}
 use Rattle.std.proofs.Common.{◌∙◌, ap, subst, inl, inr, arith}
 use Rattle.std.proofs.lemmas.Grind.{common_steps}
 use Rattle.arch_base.specs.Ids.{IsObjectId}
-use Rattle.arch_base.specs.declared.ids.Form.TheVariants as form
+use Rattle.arch_base.specs.declared.ids.Form.{Form}
+use Rattle.arch_base.specs.declared.ids.Form.TheVariants.{Sha1, Sha256}
+use Rattle.disk_model.specs.Sizes.{record_size}
 use Rattle.git_objects.specs.Objects.{blob_spelling}
 use Rattle.git_objects.proofs.ObjectIds.{IsObjectId-id_of}
 use Rattle.arch_model.specs.Archives.{Entry, Archive, messages}
@@ -14,9 +16,10 @@ use Rattle.number_map.specs.Sizes.{records_length}
 use Rattle.arch_model.specs.Validity.{IsEntry, IsArchive}
 use Rattle.store_finding.specs.Recovery.{entry_of, record_for, records_from, records_of, map_bytes}
 
--- Twenty zeros are an id.
-zero_valid : IsObjectId form.Sha1 (zero_id form.Sha1)
-zero_valid = record { form_is = refl; len = refl; bytes = λ k. grind (arith, common_steps) }
+-- Zeros are an id of each form.
+zero_valid : (form : Form) → IsObjectId form (zero_id form)
+zero_valid Sha1 = record { form_is = refl; len = refl; bytes = λ k. grind (arith, common_steps) }
+zero_valid Sha256 = record { form_is = refl; len = refl; bytes = λ k. grind (arith, common_steps) }
 
 -- What holds of both alternatives holds of the chosen one.
 chosen : (P : Entry → Type 0) (f e : Entry) (b : Bool) (rest : Option Entry) → P f → (rest ≡ Some e → P e) → (if b then Some f else rest) ≡ Some e → P e
@@ -29,26 +32,26 @@ found_entry P [] n all e is = let wrong : None ≡ Some e = is in cc
 found_entry P (f ∷ es) n all e is = chosen P f e (f.number == n) (entry_of es n) all.0 (λ rest. found_entry P es n all.1 e rest) is
 
 -- Each record is valid.
-record_is_valid : (n : ℕ) (found : Option Entry) → ((e : Entry) → found ≡ Some e → IsEntry e) → IsRecord form.Sha1 n (record_for n found)
-record_is_valid n None entry = record { number = refl; blob = zero_valid; message = inr (refl, refl) }
-record_is_valid n (Some e) entry = record { number = refl; blob = IsObjectId-id_of form.Sha1 (blob_spelling e.text); message = inl ((entry e refl).epoch) }
+record_is_valid : (form : Form) (n : ℕ) (found : Option Entry) → ((e : Entry) → found ≡ Some e → IsEntry e) → IsRecord form n (record_for form n found)
+record_is_valid form n None entry = record { number = refl; blob = zero_valid form; message = inr (refl, refl) }
+record_is_valid form n (Some e) entry = record { number = refl; blob = IsObjectId-id_of form (blob_spelling e.text); message = inl ((entry e refl).epoch) }
 
-pub records_are_valid : (es : List Entry) (n count : ℕ) → AllByRecursion IsEntry es → AreRecordsFrom form.Sha1 n (records_from es n count)
-records_are_valid es n zero valid = tt
-records_are_valid es n (suc count) valid = (record_is_valid n (entry_of es n) (found_entry IsEntry es n valid), records_are_valid es (n + 1) count valid)
+pub records_are_valid : (form : Form) (es : List Entry) (n count : ℕ) → AllByRecursion IsEntry es → AreRecordsFrom form n (records_from form es n count)
+records_are_valid form es n zero valid = tt
+records_are_valid form es n (suc count) valid = (record_is_valid form n (entry_of es n) (found_entry IsEntry es n valid), records_are_valid form es (n + 1) count valid)
 
 -- There is one record for each number.
-pub records_count : (es : List Entry) (n count : ℕ) → length (records_from es n count) ≡ count
-records_count es n zero = refl
-records_count es n (suc count) = let rest = records_count es (n + 1) count in omega (arith, rest)
+pub records_count : (form : Form) (es : List Entry) (n count : ℕ) → length (records_from form es n count) ≡ count
+records_count form es n zero = refl
+records_count form es n (suc count) = let rest = records_count form es (n + 1) count in omega (arith, rest)
 
 -- The records of an archive are valid, and as many as there are numbers below the next one.
-pub records_valid : (a : Archive) → IsArchive a → AreRecordsFrom form.Sha1 1 (records_of a)
-records_valid a valid = records_are_valid (messages a.entries) 1 (a.next - 1) (messages-all IsEntry a.entries valid.entries)
+pub records_valid : (a : Archive) → IsArchive a → AreRecordsFrom a.config.form 1 (records_of a)
+records_valid a valid = records_are_valid a.config.form (messages a.entries) 1 (a.next - 1) (messages-all IsEntry a.entries valid.entries)
 
 pub records_few : (a : Archive) → length (records_of a) ≡ a.next - 1
-records_few a = records_count (messages a.entries) 1 (a.next - 1)
+records_few a = records_count a.config.form (messages a.entries) 1 (a.next - 1)
 
--- The map has 28 bytes for each number.
-pub map_length : (a : Archive) → IsArchive a → length (map_bytes a) ≡ 28 * (a.next - 1)
-map_length a valid = records_length form.Sha1 1 (records_of a) (records_valid a valid) ∙ ap (λ (n : ℕ). 28 * n) (records_few a)
+-- The map has a record, of 28 or 40 bytes, for each number.
+pub map_length : (a : Archive) → IsArchive a → length (map_bytes a) ≡ record_size a.config.form * (a.next - 1)
+map_length a valid = records_length a.config.form 1 (records_of a) (records_valid a valid) ∙ ap (λ (n : ℕ). record_size a.config.form * n) (records_few a)

@@ -12,7 +12,7 @@ use Rattle.std.proofs.Common.{◌∙◌, sym, ap, subst, inl, inr, arith, length
 use Rattle.std.proofs.lemmas.Bool.{cases_lt}
 use Rattle.std.proofs.lemmas.Bool.Decides.{nat_tests}
 use Rattle.std.proofs.lemmas.Option.{same_Some, slice_get-get_or, slice_get_within}
-use Rattle.arch_base.specs.declared.ids.Form.TheVariants as form
+use Rattle.arch_base.specs.declared.ids.Form.{Form}
 use Rattle.arch_base.specs.Ids.{id_eq, id_cmp}
 use Rattle.arch_base.proofs.IdOrder.{id_eq-Decides}
 use Rattle.arch_base.specs.declared.ids.ObjectId.{ObjectId}
@@ -52,14 +52,14 @@ rise_step true n line rs is rest = record { rise = rise; least = least } where
   rise (suc i) zero r s less one two = absurd (omega (arith, less))
   rise (suc i) (suc j) r s less one two = rest.rise i j r s (omega (arith, less)) one two
 
-rise_from : (n : ℕ) (rs : List Record) → AreRecordsFrom form.Sha1 n rs → RiseFrom n (messages rs)
-rise_from n [] valid = record { rise = λ i j r s less one two. absurd (let wrong : None ≡ Some r = one in cc); least = λ i r here. absurd (let wrong : None ≡ Some r = here in cc) }
-rise_from n (line ∷ rs) valid = rise_step (has_message line) n line (messages rs) valid.0.number (rise_from (n + 1) rs valid.1)
+rise_from : (form : Form) (n : ℕ) (rs : List Record) → AreRecordsFrom form n rs → RiseFrom n (messages rs)
+rise_from form n [] valid = record { rise = λ i j r s less one two. absurd (let wrong : None ≡ Some r = one in cc); least = λ i r here. absurd (let wrong : None ≡ Some r = here in cc) }
+rise_from form n (line ∷ rs) valid = rise_step (has_message line) n line (messages rs) valid.0.number (rise_from form (n + 1) rs valid.1)
 
 -- Before the first entry.
-pub joining_none : (rs records : List Record) (entries : List StoredEntry) (places : List ℕ) (index : Index) → records ≡ messages rs → AreRecordsFrom form.Sha1 1 rs → places ≡ [] → index.owners.entries ≡ [] → index.blobs.entries ≡ [] → IsJoining (record { records = records; entries = entries }) places index
-joining_none rs records entries places index is valid none no_owners no_blobs = record {
-  rise = subst NumbersRise (sym is) (rise_from 1 rs valid).rise;
+pub joining_none : (form : Form) (rs records : List Record) (entries : List StoredEntry) (places : List ℕ) (index : Index) → records ≡ messages rs → AreRecordsFrom form 1 rs → places ≡ [] → index.owners.entries ≡ [] → index.blobs.entries ≡ [] → IsJoining (record { records = records; entries = entries }) places index
+joining_none form rs records entries places index is valid none no_owners no_blobs = record {
+  rise = subst NumbersRise (sym is) (rise_from form 1 rs valid).rise;
   placed = λ i at here. absurd (let wrong : None ≡ Some at = ap (λ (l : List ℕ). slice_get l i) (sym none) ∙ here in cc);
   indexes = record {
     owners = λ id o here. absurd (let wrong : None ≡ Some o = sym (ap (λ (l : List (Vec ℕ × Owner)). lookup (is_at (λ (k : Vec ℕ). slice_cmp nat_cmp id k.items)) l) no_owners) ∙ here in cc);

@@ -1,6 +1,5 @@
 -- Files that stand for an archive have no damage.
 use Rattle.std.specs.Prelude.{◌-◌}
-use Rattle.arch_base.specs.declared.ids.Form.TheVariants as form
 use Rattle.disk_model.specs.Disk.{bytes_of}
 use Rattle.number_map.specs.Laws.{ReadOrDamaged, RecordsDiffer}
 use Rattle.epoch_file.specs.Entries.{EntriesDiffer, EpochsDiffer}
@@ -14,6 +13,6 @@ use Rattle.store_finding.proofs.Undamaged.{opened_undamaged}
 pub recovers_undamaged : RecordsDiffer → ReadOrDamaged → EntriesDiffer → EpochsDiffer → RecoversUndamaged
 recovers_undamaged records either entries epochs root files a cache recovers =
     let has = recovers_map root files a cache recovers in (
-      λ offset damaged. either form.Sha1 (root.next - 1) (bytes_of (files (map_file_of root))) (records_of a) offset (has.count, has.begins) damaged,
+      λ offset damaged. either root.config.form (root.next - 1) (bytes_of (files (map_file_of root))) (records_of a) offset (has.count, has.begins) damaged,
       λ rs epoch offset map damage. opened_undamaged entries epochs root files rs a.entries epoch offset map (recovers_opened records root files rs a cache map recovers) damage,
     )

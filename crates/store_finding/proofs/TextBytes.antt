@@ -8,7 +8,7 @@ use Rattle.std.proofs.Math.Seq.{take-append_seam, drop-append_seam}
 use Rattle.std.proofs.lemmas.List.Elements.{filter-append}
 use Rattle.std.proofs.lemmas.Bool.Decides.{nat_tests}
 use Rattle.arch_base.specs.declared.ids.ObjectId.{ObjectId}
-use Rattle.arch_base.specs.declared.ids.Form.TheVariants as form
+use Rattle.arch_base.specs.declared.ids.Form.{Form}
 use Rattle.disk_model.specs.Disk.{File, bytes_of}
 use Rattle.git_objects.specs.declared.entry_kind.EntryKind.{EntryKind}
 use Rattle.arch_model.specs.Archives.{Entry, in_epoch}
@@ -16,6 +16,7 @@ use Rattle.arch_model.specs.Epochs.{epoch_bytes, entries_bytes, last_commit}
 use Rattle.mail_commits.specs.Entries.{entry_bytes, tree_of, commit_text, magic, commit_id}
 use Rattle.epoch_file.specs.Entries.{bytes_after}
 use Rattle.epoch_file.specs.Walking.{blob_front}
+use Rattle.epoch_file.proofs.Chains.{length-magic}
 use Rattle.root_change.specs.Texts.{Fronts}
 use Rattle.store_finding.specs.Kept.{in_file}
 
@@ -59,17 +60,17 @@ divided_reads bytes offset text d =
     (omega (arith, size, parts, rest, len), ap (take (length text)) dropped ∙ take-append_seam text d.after)
 
 -- The bytes of entries with one among them.
-entries_split : (parent : Option ObjectId) (xs : List Entry) (e : Entry) (ys : List Entry)
-    → entries_bytes parent (xs ++ e ∷ ys) ≡ entries_bytes parent xs ++ (bytes_after form.Sha1 (last_commit parent xs) (in_file e) ++ entries_bytes (Some (commit_id form.Sha1 e.kind e.text e.moment (last_commit parent xs))) ys)
-entries_split parent [] e ys = refl
-entries_split parent (x ∷ xs) e ys =
-    let next : Option ObjectId = Some (commit_id form.Sha1 x.kind x.text x.moment parent) in
-    ap (λ (b : List ℕ). entry_bytes form.Sha1 x.kind x.text x.moment parent ++ b) (entries_split next xs e ys)
-    ∙ sym (append_assoc (entry_bytes form.Sha1 x.kind x.text x.moment parent) (entries_bytes next xs) (bytes_after form.Sha1 (last_commit next xs) (in_file e) ++ entries_bytes (Some (commit_id form.Sha1 e.kind e.text e.moment (last_commit next xs))) ys))
+entries_split : (form : Form) (parent : Option ObjectId) (xs : List Entry) (e : Entry) (ys : List Entry)
+    → entries_bytes form parent (xs ++ e ∷ ys) ≡ entries_bytes form parent xs ++ (bytes_after form (last_commit form parent xs) (in_file e) ++ entries_bytes form (Some (commit_id form e.kind e.text e.moment (last_commit form parent xs))) ys)
+entries_split form parent [] e ys = refl
+entries_split form parent (x ∷ xs) e ys =
+    let next : Option ObjectId = Some (commit_id form x.kind x.text x.moment parent) in
+    ap (λ (b : List ℕ). entry_bytes form x.kind x.text x.moment parent ++ b) (entries_split form next xs e ys)
+    ∙ sym (append_assoc (entry_bytes form x.kind x.text x.moment parent) (entries_bytes form next xs) (bytes_after form (last_commit form next xs) (in_file e) ++ entries_bytes form (Some (commit_id form e.kind e.text e.moment (last_commit form next xs))) ys))
 
-epoch_split : (xs : List Entry) (e : Entry) (ys : List Entry) → epoch_bytes (xs ++ e ∷ ys) ≡ magic form.Sha1 ++ entries_bytes None (xs ++ e ∷ ys)
-epoch_split [] e ys = refl
-epoch_split (x ∷ xs) e ys = refl
+epoch_split : (form : Form) (xs : List Entry) (e : Entry) (ys : List Entry) → epoch_bytes form (xs ++ e ∷ ys) ≡ magic form ++ entries_bytes form None (xs ++ e ∷ ys)
+epoch_split form [] e ys = refl
+epoch_split form (x ∷ xs) e ys = refl
 
 pub in_epoch_split : (xs : List Entry) (e : Entry) (ys : List Entry) → in_epoch (xs ++ e ∷ ys) e.epoch ≡ in_epoch xs e.epoch ++ e ∷ in_epoch ys e.epoch
 in_epoch_split xs e ys =
@@ -85,22 +86,22 @@ sized_text digits text more = record {
   len = let size = length-append digits (0 ∷ []) in omega (arith, size);
 }
 
-entry_text : (kind : EntryKind) (text : List ℕ) (moment : ℕ) (parent : Option ObjectId) → Divided (entry_bytes form.Sha1 kind text moment parent) (6 + length (decimal (length text))) text
+entry_text : (form : Form) (kind : EntryKind) (text : List ℕ) (moment : ℕ) (parent : Option ObjectId) → Divided (entry_bytes form kind text moment parent) (6 + length (decimal (length text))) text
 unfolding entry_bytes
-entry_text kind text moment parent = sized_text (decimal (length text)) text (tree_of form.Sha1 kind text ++ commit_text form.Sha1 kind text moment parent)
+entry_text form kind text moment parent = sized_text (decimal (length text)) text (tree_of form kind text ++ commit_text form kind text moment parent)
 
 -- A text in the bytes of its epoch.
-pub epoch_text : (xs : List Entry) (e : Entry) (ys : List Entry) → Divided (epoch_bytes (xs ++ e ∷ ys)) (8 + length (entries_bytes None xs) + blob_front e.text) e.text
-epoch_text xs e ys =
-    let parent = last_commit None xs in
-    let rest = entries_bytes (Some (commit_id form.Sha1 e.kind e.text e.moment parent)) ys in
-    let all = entries_bytes None xs ++ (bytes_after form.Sha1 parent (in_file e) ++ rest) in
-    let here = divided_before (bytes_after form.Sha1 parent (in_file e)) rest (blob_front e.text) e.text (entry_text e.kind e.text e.moment parent) in
-    let after = divided_after (entries_bytes None xs) (bytes_after form.Sha1 parent (in_file e) ++ rest) (blob_front e.text) e.text here in
-    let whole : Divided (magic form.Sha1 ++ all) (length (magic form.Sha1) + (length (entries_bytes None xs) + blob_front e.text)) e.text = divided_after (magic form.Sha1) all (length (entries_bytes None xs) + blob_front e.text) e.text after in
-    let offset : length (magic form.Sha1) + (length (entries_bytes None xs) + blob_front e.text) ≡ 8 + length (entries_bytes None xs) + blob_front e.text = omega arith in
-    subst (λ (n : ℕ). Divided (epoch_bytes (xs ++ e ∷ ys)) n e.text) offset
-    (subst (λ (b : List ℕ). Divided b (length (magic form.Sha1) + (length (entries_bytes None xs) + blob_front e.text)) e.text) (sym (epoch_split xs e ys ∙ ap (λ (b : List ℕ). magic form.Sha1 ++ b) (entries_split None xs e ys))) whole)
+pub epoch_text : (form : Form) (xs : List Entry) (e : Entry) (ys : List Entry) → Divided (epoch_bytes form (xs ++ e ∷ ys)) (8 + length (entries_bytes form None xs) + blob_front e.text) e.text
+epoch_text form xs e ys =
+    let parent = last_commit form None xs in
+    let rest = entries_bytes form (Some (commit_id form e.kind e.text e.moment parent)) ys in
+    let all = entries_bytes form None xs ++ (bytes_after form parent (in_file e) ++ rest) in
+    let here = divided_before (bytes_after form parent (in_file e)) rest (blob_front e.text) e.text (entry_text form e.kind e.text e.moment parent) in
+    let after = divided_after (entries_bytes form None xs) (bytes_after form parent (in_file e) ++ rest) (blob_front e.text) e.text here in
+    let whole : Divided (magic form ++ all) (length (magic form) + (length (entries_bytes form None xs) + blob_front e.text)) e.text = divided_after (magic form) all (length (entries_bytes form None xs) + blob_front e.text) e.text after in
+    let offset : length (magic form) + (length (entries_bytes form None xs) + blob_front e.text) ≡ 8 + length (entries_bytes form None xs) + blob_front e.text = omega (arith, length-magic form) in
+    subst (λ (n : ℕ). Divided (epoch_bytes form (xs ++ e ∷ ys)) n e.text) offset
+    (subst (λ (b : List ℕ). Divided b (length (magic form) + (length (entries_bytes form None xs) + blob_front e.text)) e.text) (sym (epoch_split form xs e ys ∙ ap (λ (b : List ℕ). magic form ++ b) (entries_split form None xs e ys))) whole)
 
 -- A text in the bytes that a file starts with is in the file.
 pub in_fronts : (bytes : List ℕ) (file : File) (offset : ℕ) (text : List ℕ) → Fronts bytes file → Divided bytes offset text → Divided (bytes_of file) offset text

@@ -7,13 +7,14 @@ use Rattle.std.proofs.lemmas.List.{append-nil, append_cancel_left, take-append-d
 use Rattle.std.proofs.lemmas.List.Elements.{filter-append}
 use Rattle.std.proofs.lemmas.Bool.{cases_lt}
 use Rattle.arch_base.specs.declared.ids.ObjectId.{ObjectId}
-use Rattle.arch_base.specs.declared.ids.Form.TheVariants as form
+use Rattle.arch_base.specs.declared.ids.Form.{Form}
 use Rattle.disk_model.specs.Disk.{Files, bytes_of}
 use Rattle.arch_model.specs.Archives.{Entry, in_epoch, messages as delivered}
 use Rattle.mail_commits.specs.Entries.{magic}
 use Rattle.arch_model.specs.Epochs.{epoch_bytes, entries_bytes, last_commit}
 use Rattle.number_map.specs.declared.line.Record.{Record}
 use Rattle.epoch_file.specs.Entries.{EntriesDiffer, EpochEntry, AreEpochEntries, bytes_after, commit_after, chain, last_of, EpochsDiffer}
+use Rattle.epoch_file.proofs.Chains.{length-magic}
 use Rattle.root_slots.specs.declared.root.Root.{Root}
 use Rattle.root_slots.specs.Valid.{RootFits}
 use Rattle.root_change.specs.Texts.{Fronts}
@@ -27,7 +28,7 @@ use Rattle.store_finding.proofs.UniqueRoots.{front_is_one}
 use Rattle.store_finding.proofs.UniqueEntries.{unnumbered, same_first}
 use Rattle.store_finding.proofs.Firsts.{all_back, all_front, first_front}
 use Rattle.store_finding.proofs.Joins.{only_here}
-use Rattle.store_finding.proofs.Opening.{chain_of, last_is, entry_some, file_valid, none_apart}
+use Rattle.store_finding.proofs.Opening.{chain_of, last_is, take_magic, drop_magic, entry_some, file_valid, none_apart}
 
 -- Epochs never fall, so entries are those before an epoch and then the others.
 rise_over : (number low : ℕ) (es : List Entry) → Rise number low es → AllByRecursion (λ (e : Entry). low ≤ e.epoch) es
@@ -57,10 +58,10 @@ record UpTo (root : Root) (files : Files) (rs after : List Record) (es : List En
   back : List Entry
   is : es ≡ front ++ back
   over : AllByRecursion (λ (e : Entry). epoch ≤ e.epoch) back
-  first : AreFirst rs (map record_of (delivered back) ++ after) front
+  first : AreFirst root.config.form rs (map (record_of root.config.form) (delivered back) ++ after) front
   whole : AreWhole root files epoch front
 
-up_to : (root : Root) (files : Files) (rs after : List Record) (es : List Entry) (top epoch : ℕ) → AreFirst rs after es → AreWhole root files top es → epoch ≤ top → UpTo root files rs after es epoch
+up_to : (root : Root) (files : Files) (rs after : List Record) (es : List Entry) (top epoch : ℕ) → AreFirst root.config.form rs after es → AreWhole root files top es → epoch ≤ top → UpTo root files rs after es epoch
 up_to root files rs after es top epoch first whole low =
     let parts = split 1 0 es epoch first.order in
     let same : (e : ℕ) → e < epoch → in_epoch es e ≡ in_epoch parts.front e = (λ e less. ap (λ (l : List Entry). in_epoch l e) parts.is
@@ -72,11 +73,11 @@ up_to root files rs after es top epoch first whole low =
       back = parts.back;
       is = parts.is;
       over = parts.over;
-      first = first_front rs after parts.front parts.back (subst (AreFirst rs after) parts.is first);
+      first = first_front root.config.form rs after parts.front parts.back (subst (AreFirst root.config.form rs after) parts.is first);
       whole = record {
         below = parts.under;
-        lengths = λ e less. whole.lengths e (omega (arith, less, low)) ∙ ap (λ (l : List Entry). length (epoch_bytes l)) (same e less);
-        fronts = λ e less. subst (λ (l : List Entry). Fronts (epoch_bytes l) (files (epoch_file_of root e))) (same e less) (whole.fronts e (omega (arith, less, low)));
+        lengths = λ e less. whole.lengths e (omega (arith, less, low)) ∙ ap (λ (l : List Entry). length (epoch_bytes root.config.form l)) (same e less);
+        fronts = λ e less. subst (λ (l : List Entry). Fronts (epoch_bytes root.config.form l) (files (epoch_file_of root e))) (same e less) (whole.fronts e (omega (arith, less, low)));
       };
     }
 
@@ -85,10 +86,10 @@ record Last (root : Root) (files : Files) (rs after : List Record) (es : List En
   upto : UpTo root files rs after es epoch
   stand : AllByRecursion (λ (e : Entry). e.epoch ≡ epoch) upto.back
   valid : AllByRecursion IsEntry upto.back
-  long : named_length root epoch ≡ length (epoch_bytes upto.back)
-  front : Fronts (epoch_bytes upto.back) (files (epoch_file_of root epoch))
+  long : named_length root epoch ≡ length (epoch_bytes root.config.form upto.back)
+  front : Fronts (epoch_bytes root.config.form upto.back) (files (epoch_file_of root epoch))
 
-last_epoch : (root : Root) (files : Files) (rs after : List Record) (es : List Entry) (epoch : ℕ) → AreFirst rs after es → AreWhole root files (suc epoch) es → Last root files rs after es epoch
+last_epoch : (root : Root) (files : Files) (rs after : List Record) (es : List Entry) (epoch : ℕ) → AreFirst root.config.form rs after es → AreWhole root files (suc epoch) es → Last root files rs after es epoch
 last_epoch root files rs after es epoch first whole =
     let part = up_to root files rs after es (suc epoch) epoch first whole (omega arith) in
     let stand = both part.back (all_back (λ (e : Entry). e.epoch < suc epoch) part.front part.back (subst (AllByRecursion (λ (e : Entry). e.epoch < suc epoch)) part.is whole.below)) part.over in
@@ -97,17 +98,17 @@ last_epoch root files rs after es epoch first whole =
       upto = part;
       stand = stand;
       valid = all_back IsEntry part.front part.back (subst (AllByRecursion IsEntry) part.is first.valid);
-      long = whole.lengths epoch (omega arith) ∙ ap (λ (l : List Entry). length (epoch_bytes l)) here;
-      front = subst (λ (l : List Entry). Fronts (epoch_bytes l) (files (epoch_file_of root epoch))) here (whole.fronts epoch (omega arith));
+      long = whole.lengths epoch (omega arith) ∙ ap (λ (l : List Entry). length (epoch_bytes root.config.form l)) here;
+      front = subst (λ (l : List Entry). Fronts (epoch_bytes root.config.form l) (files (epoch_file_of root epoch))) here (whole.fronts epoch (omega arith));
     } where
       both : (xs : List Entry) → AllByRecursion (λ (e : Entry). e.epoch < suc epoch) xs → AllByRecursion (λ (e : Entry). epoch ≤ e.epoch) xs → AllByRecursion (λ (e : Entry). e.epoch ≡ epoch) xs
       both [] under over = tt
       both (x ∷ xs) under over = (let low = under.0 in let high = over.0 in omega (arith, low, high), both xs under.1 over.1)
 
 -- The bytes of an epoch after the magic are a chain.
-tail_of : (es : List Entry) → chain form.Sha1 None (map in_file es) ≡ drop 8 (epoch_bytes es)
-tail_of [] = refl
-tail_of (e ∷ es) = sym (chain_of None (e ∷ es)) ∙ sym (drop-append_seam (magic form.Sha1) (entries_bytes None (e ∷ es)))
+tail_of : (form : Form) (es : List Entry) → chain form None (map in_file es) ≡ drop 8 (epoch_bytes form es)
+tail_of form [] = refl
+tail_of form (e ∷ es) = sym (chain_of form None (e ∷ es)) ∙ sym (drop_magic form (entries_bytes form None (e ∷ es)))
 
 files_valid : (es : List Entry) → AllByRecursion IsEntry es → AreEpochEntries (map in_file es)
 files_valid [] all = tt
@@ -126,7 +127,7 @@ same_places epoch xs ys one two same = from_files epoch xs one ∙ (ap (map (fro
 
 module _ (root : Root) (files : Files) (rs : List Record) (fits : RootFits root) where
   -- The bytes of epochs that are whole determine all of their entries but for the numbers.
-  same_whole : EpochsDiffer → (epoch : ℕ) (p q : List Record) (xs ys : List Entry) → epoch ≤ 64 → AreFirst rs p xs → AreFirst rs q ys → AreWhole root files epoch xs → AreWhole root files epoch ys → map unnumbered xs ≡ map unnumbered ys
+  same_whole : EpochsDiffer → (epoch : ℕ) (p q : List Record) (xs ys : List Entry) → epoch ≤ 64 → AreFirst root.config.form rs p xs → AreFirst root.config.form rs q ys → AreWhole root files epoch xs → AreWhole root files epoch ys → map unnumbered xs ≡ map unnumbered ys
   same_whole differ zero p q xs ys few first also whole part = ap (map unnumbered) (none_below xs whole.below ∙ sym (none_below ys part.below)) where
     none_below : (es : List Entry) → AllByRecursion (λ (e : Entry). e.epoch < 0) es → es ≡ []
     none_below [] below = refl
@@ -135,14 +136,14 @@ module _ (root : Root) (files : Files) (rs : List Record) (fits : RootFits root)
       let one = last_epoch root files rs p xs epoch first whole in
       let two = last_epoch root files rs q ys epoch also part in
       let fronts = same_whole differ epoch _ _ one.upto.front two.upto.front (omega (arith, few)) one.upto.first two.upto.first one.upto.whole two.upto.whole in
-      let bytes = front_is_one (files (epoch_file_of root epoch)) (epoch_bytes one.upto.back) (epoch_bytes two.upto.back) (sym one.long ∙ two.long) one.front two.front in
+      let bytes = front_is_one (files (epoch_file_of root epoch)) (epoch_bytes root.config.form one.upto.back) (epoch_bytes root.config.form two.upto.back) (sym one.long ∙ two.long) one.front two.front in
       let short = (fits.epochs epoch (omega (arith, few))).length in
       let long = one.long in
-      let size : length (chain form.Sha1 None (map in_file one.upto.back)) ≡ length (drop 8 (epoch_bytes one.upto.back)) = ap length (tail_of one.upto.back) in
+      let size : length (chain root.config.form None (map in_file one.upto.back)) ≡ length (drop 8 (epoch_bytes root.config.form one.upto.back)) = ap length (tail_of root.config.form one.upto.back) in
       let same : map in_file one.upto.back ≡ map in_file two.upto.back =
-      differ form.Sha1 (map in_file one.upto.back) (map in_file two.upto.back) (files_valid one.upto.back one.valid) (files_valid two.upto.back two.valid)
-      (omega (arith, short, long, size, length-append (magic form.Sha1) (chain form.Sha1 None (map in_file one.upto.back)), length-drop 8 (epoch_bytes one.upto.back)))
-      (ap (λ (b : List ℕ). magic form.Sha1 ++ b) (tail_of one.upto.back ∙ (ap (drop 8) bytes ∙ sym (tail_of two.upto.back)))) in
+      differ root.config.form (map in_file one.upto.back) (map in_file two.upto.back) (files_valid one.upto.back one.valid) (files_valid two.upto.back two.valid)
+      (omega (arith, short, long, size, length-magic root.config.form, length-append (magic root.config.form) (chain root.config.form None (map in_file one.upto.back)), length-drop 8 (epoch_bytes root.config.form one.upto.back)))
+      (ap (λ (b : List ℕ). magic root.config.form ++ b) (tail_of root.config.form one.upto.back ∙ (ap (drop 8) bytes ∙ sym (tail_of root.config.form two.upto.back)))) in
       ap (map unnumbered) one.upto.is ∙ (map-append unnumbered one.upto.front one.upto.back
       ∙ ((λ i. fronts i ++ same_places epoch one.upto.back two.upto.back one.stand two.stand same i)
       ∙ sym (ap (map unnumbered) two.upto.is ∙ map-append unnumbered two.upto.front two.upto.back)))
@@ -166,30 +167,30 @@ named_whole root files epoch bytes long front = ap (λ (n : ℕ). take n (bytes_
 -- No epoch lacks its magic.
 no_front_lost : (root : Root) (files : Files) (rs : List Record) (entries : List Entry) (epoch offset : ℕ) → AreWhole root files 64 entries → epoch < 64 → LacksFront root files rs epoch offset → ⊥
 no_front_lost root files rs entries epoch offset whole less lost = by (in_epoch entries epoch) (named_whole root files epoch _ (whole.lengths epoch less) (whole.fronts epoch less)) (whole.lengths epoch less) where
-  by : (here : List Entry) → named_bytes root files epoch ≡ epoch_bytes here → named_length root epoch ≡ length (epoch_bytes here) → ⊥
+  by : (here : List Entry) → named_bytes root files epoch ≡ epoch_bytes root.config.form here → named_length root epoch ≡ length (epoch_bytes root.config.form here) → ⊥
   by [] is long = let some = lost.some in absurd (omega (arith, some, long))
-  by (e ∷ es) is long = lost.lacks (ap (take 8) is ∙ take-append_seam (magic form.Sha1) (entries_bytes None (e ∷ es)))
+  by (e ∷ es) is long = lost.lacks (ap (take 8) is ∙ take_magic root.config.form (entries_bytes root.config.form None (e ∷ es)))
 
 -- Entries whose bytes start others' bytes are the first of them.
-pub record Prefix (parent : Option ObjectId) (xs ys : List EpochEntry) (rest : List ℕ) : Type 0 where
+pub record Prefix (form : Form) (parent : Option ObjectId) (xs ys : List EpochEntry) (rest : List ℕ) : Type 0 where
   pub more : List EpochEntry
   pub is : ys ≡ xs ++ more
-  pub rest_is : rest ≡ chain form.Sha1 (last_of form.Sha1 parent xs) more
+  pub rest_is : rest ≡ chain form (last_of form parent xs) more
 
 no_front : (b c r : List ℕ) → [] ≡ (b ++ c) ++ r → b ≡ []
 no_front [] c r is = refl
 no_front (z ∷ zs) c r is = absurd (cc)
 
-pub prefix_of : EntriesDiffer → (parent : Option ObjectId) (xs ys : List EpochEntry) (rest : List ℕ) → AreEpochEntries xs → AreEpochEntries ys → length (chain form.Sha1 parent ys) < 2 ^ 64 → chain form.Sha1 parent ys ≡ chain form.Sha1 parent xs ++ rest → Prefix parent xs ys rest
-prefix_of differ parent [] ys rest valid also short is = record { more = ys; is = refl; rest_is = sym is }
-prefix_of differ parent (x ∷ xs) [] rest valid also short is = absurd (entry_some parent x (no_front (bytes_after form.Sha1 parent x) (chain form.Sha1 (Some (commit_after form.Sha1 parent x)) xs) rest is))
-prefix_of differ parent (x ∷ xs) (y ∷ ys) rest valid also short is =
-    let next : Option ObjectId = Some (commit_after form.Sha1 parent x) in
-    let tail = chain form.Sha1 (Some (commit_after form.Sha1 parent y)) ys in
-    let one = differ form.Sha1 parent y x tail (chain form.Sha1 next xs ++ rest) also.0 valid.0 short (is ∙ append_assoc (bytes_after form.Sha1 parent x) (chain form.Sha1 next xs) rest) in
-    let same : chain form.Sha1 next ys ≡ chain form.Sha1 next xs ++ rest = ap (λ (e : EpochEntry). chain form.Sha1 (Some (commit_after form.Sha1 parent e)) ys) (sym one.0) ∙ one.1 in
-    let size : length (chain form.Sha1 next ys) ≡ length tail = ap (λ (e : EpochEntry). length (chain form.Sha1 (Some (commit_after form.Sha1 parent e)) ys)) (sym one.0) in
-    let later = prefix_of differ next xs ys rest valid.1 also.1 (omega (arith, short, size, length-append (bytes_after form.Sha1 parent y) tail)) same in
+pub prefix_of : (form : Form) → EntriesDiffer → (parent : Option ObjectId) (xs ys : List EpochEntry) (rest : List ℕ) → AreEpochEntries xs → AreEpochEntries ys → length (chain form parent ys) < 2 ^ 64 → chain form parent ys ≡ chain form parent xs ++ rest → Prefix form parent xs ys rest
+prefix_of form differ parent [] ys rest valid also short is = record { more = ys; is = refl; rest_is = sym is }
+prefix_of form differ parent (x ∷ xs) [] rest valid also short is = absurd (entry_some form parent x (no_front (bytes_after form parent x) (chain form (Some (commit_after form parent x)) xs) rest is))
+prefix_of form differ parent (x ∷ xs) (y ∷ ys) rest valid also short is =
+    let next : Option ObjectId = Some (commit_after form parent x) in
+    let tail = chain form (Some (commit_after form parent y)) ys in
+    let one = differ form parent y x tail (chain form next xs ++ rest) also.0 valid.0 short (is ∙ append_assoc (bytes_after form parent x) (chain form next xs) rest) in
+    let same : chain form next ys ≡ chain form next xs ++ rest = ap (λ (e : EpochEntry). chain form (Some (commit_after form parent e)) ys) (sym one.0) ∙ one.1 in
+    let size : length (chain form next ys) ≡ length tail = ap (λ (e : EpochEntry). length (chain form (Some (commit_after form parent e)) ys)) (sym one.0) in
+    let later = prefix_of form differ next xs ys rest valid.1 also.1 (omega (arith, short, size, length-append (bytes_after form parent y) tail)) same in
     let first = one.0 in
     record { more = later.more; is = (λ i. first i ∷ later.is i); rest_is = later.rest_is }
 
@@ -200,44 +201,44 @@ none_lost entry epochs root files rs entries epoch offset fits opened less lost 
     let last = last_epoch root files rs _ all.front epoch all.first all.whole in
     let here = last.upto.back in
     let count = length lost.here in
-    let named : named_bytes root files epoch ≡ epoch_bytes here = named_whole root files epoch (epoch_bytes here) last.long last.front in
-    let begins : chain form.Sha1 None (map in_file here) ≡ chain form.Sha1 None (map in_file lost.here) ++ lost.rest =
-    tail_of here ∙ (ap (drop 8) (sym named ∙ (lost.spelled ∙ append_assoc (magic form.Sha1) (entries_bytes None lost.here) lost.rest))
-    ∙ (drop-append_seam (magic form.Sha1) (entries_bytes None lost.here ++ lost.rest) ∙ ap (λ (b : List ℕ). b ++ lost.rest) (chain_of None lost.here))) in
-    let size : length (chain form.Sha1 None (map in_file here)) ≡ length (drop 8 (epoch_bytes here)) = ap length (tail_of here) in
+    let named : named_bytes root files epoch ≡ epoch_bytes root.config.form here = named_whole root files epoch (epoch_bytes root.config.form here) last.long last.front in
+    let begins : chain root.config.form None (map in_file here) ≡ chain root.config.form None (map in_file lost.here) ++ lost.rest =
+    tail_of root.config.form here ∙ (ap (drop 8) (sym named ∙ (lost.spelled ∙ append_assoc (magic root.config.form) (entries_bytes root.config.form None lost.here) lost.rest))
+    ∙ (drop_magic root.config.form (entries_bytes root.config.form None lost.here ++ lost.rest) ∙ ap (λ (b : List ℕ). b ++ lost.rest) (chain_of root.config.form None lost.here))) in
+    let size : length (chain root.config.form None (map in_file here)) ≡ length (drop 8 (epoch_bytes root.config.form here)) = ap length (tail_of root.config.form here) in
     let long = last.long in
     let short = (fits.epochs epoch less).length in
-    let prefix = prefix_of entry None (map in_file lost.here) (map in_file here) lost.rest (files_valid lost.here (all_back IsEntry lost.before lost.here lost.first.valid)) (files_valid here last.valid)
-    (omega (arith, short, long, size, length-drop 8 (epoch_bytes here))) begins in
+    let prefix = prefix_of root.config.form entry None (map in_file lost.here) (map in_file here) lost.rest (files_valid lost.here (all_back IsEntry lost.before lost.here lost.first.valid)) (files_valid here last.valid)
+    (omega (arith, short, long, size, length-drop 8 (epoch_bytes root.config.form here))) begins in
     let counted = length-map lost.here in_file in
     let start : map in_file (take count here) ≡ map in_file lost.here = sym (take-map in_file count here) ∙ (ap (take count) prefix.is ∙ (ap (λ (n : ℕ). take n (map in_file lost.here ++ prefix.more)) (sym counted) ∙ take-append_seam (map in_file lost.here) prefix.more)) in
     let left : map in_file (drop count here) ≡ prefix.more = sym (drop-map in_file count here) ∙ (ap (drop count) prefix.is ∙ (ap (λ (n : ℕ). drop n (map in_file lost.here ++ prefix.more)) (sym counted) ∙ drop-append_seam (map in_file lost.here) prefix.more)) in
     let xs = last.upto.front ++ take count here in
     let whole : entries ≡ xs ++ (drop count here ++ all.back) =
     all.is ∙ (ap (λ (l : List Entry). l ++ all.back) (last.upto.is ∙ (ap (λ (l : List Entry). last.upto.front ++ l) (sym (take-append-drop count here)) ∙ sym (append_assoc last.upto.front (take count here) (drop count here)))) ∙ append_assoc xs (drop count here) all.back) in
-    let before : last.upto.front ≡ lost.before = whole_one root files rs fits epochs _ _ epoch last.upto.front lost.before (omega (arith, less)) last.upto.first (first_front rs lost.after lost.before lost.here lost.first) last.upto.whole lost.whole in
+    let before : last.upto.front ≡ lost.before = whole_one root files rs fits epochs _ _ epoch last.upto.front lost.before (omega (arith, less)) last.upto.first (first_front root.config.form rs lost.after lost.before lost.here lost.first) last.upto.whole lost.whole in
     let InEpoch : List Entry → Type 0 = AllByRecursion (λ (e : Entry). e.epoch ≡ epoch) in
     let stand : InEpoch (take count here ++ drop count here) = subst InEpoch (sym (take-append-drop count here)) last.stand in
     let places = same_places epoch (take count here) lost.here (all_front (λ (e : Entry). e.epoch ≡ epoch) (take count here) (drop count here) stand) lost.stand start in
-    let same : xs ≡ lost.before ++ lost.here = same_first rs _ lost.after xs (lost.before ++ lost.here) (first_front rs [] xs (drop count here ++ all.back) (subst (AreFirst rs []) whole opened.first)) lost.first
+    let same : xs ≡ lost.before ++ lost.here = same_first root.config.form rs _ lost.after xs (lost.before ++ lost.here) (first_front root.config.form rs [] xs (drop count here ++ all.back) (subst (AreFirst root.config.form rs []) whole opened.first)) lost.first
     (map-append unnumbered last.upto.front (take count here) ∙ ((λ i. map unnumbered (before i) ++ places i) ∙ sym (map-append unnumbered lost.before lost.here))) in
-    let total : length (epoch_bytes here) ≡ length ((magic form.Sha1 ++ entries_bytes None lost.here) ++ lost.rest) = ap length (sym named ∙ lost.spelled) in
-    by here all.back (drop count here) refl (all_back (λ (e : Entry). e.epoch ≡ epoch) (take count here) (drop count here) stand) (prefix.rest_is ∙ (λ i. chain form.Sha1 (sym (last_is None lost.here) i) (sym left i)))
-    (omega (arith, long, total, length-append (magic form.Sha1 ++ entries_bytes None lost.here) lost.rest, length-append (magic form.Sha1) (entries_bytes None lost.here)))
+    let total : length (epoch_bytes root.config.form here) ≡ length ((magic root.config.form ++ entries_bytes root.config.form None lost.here) ++ lost.rest) = ap length (sym named ∙ lost.spelled) in
+    by here all.back (drop count here) refl (all_back (λ (e : Entry). e.epoch ≡ epoch) (take count here) (drop count here) stand) (prefix.rest_is ∙ (λ i. chain root.config.form (sym (last_is root.config.form None lost.here) i) (sym left i)))
+    (omega (arith, long, total, length-magic root.config.form, length-append (magic root.config.form ++ entries_bytes root.config.form None lost.here) lost.rest, length-append (magic root.config.form) (entries_bytes root.config.form None lost.here)))
     long (whole ∙ (λ i. same i ++ (drop count here ++ all.back)))
   where
-    by : (here back more : List Entry) → drop (length lost.here) here ≡ more → AllByRecursion (λ (e : Entry). e.epoch ≡ epoch) more → lost.rest ≡ chain form.Sha1 (last_commit None lost.here) (map in_file more)
-        → named_length root epoch ≡ 8 + length (entries_bytes None lost.here) + length lost.rest → named_length root epoch ≡ length (epoch_bytes here) → entries ≡ (lost.before ++ lost.here) ++ (more ++ back) → ⊥
+    by : (here back more : List Entry) → drop (length lost.here) here ≡ more → AllByRecursion (λ (e : Entry). e.epoch ≡ epoch) more → lost.rest ≡ chain root.config.form (last_commit root.config.form None lost.here) (map in_file more)
+        → named_length root epoch ≡ 8 + length (entries_bytes root.config.form None lost.here) + length lost.rest → named_length root epoch ≡ length (epoch_bytes root.config.form here) → entries ≡ (lost.before ++ lost.here) ++ (more ++ back) → ⊥
     by here back [] none stand rest total long is =
         let size : length lost.rest ≡ 0 = ap length rest in
         let at = lost.offset_is in
         elim lost.wanted [
-          | inl empty ↦ (let nothing : 0 ≡ length (epoch_bytes here) = ap (λ (l : List Entry). length (epoch_bytes l)) (sym none ∙ ap (λ (l : List Entry). drop (length l) here) empty) in absurd (omega (arith, nothing, long, total)))
+          | inl empty ↦ (let nothing : 0 ≡ length (epoch_bytes root.config.form here) = ap (λ (l : List Entry). length (epoch_bytes root.config.form l)) (sym none ∙ ap (λ (l : List Entry). drop (length l) here) empty) in absurd (omega (arith, nothing, long, total)))
           | inr goes_on ↦ absurd (omega (arith, total, size, at, goes_on))
         ]
     by here back (c ∷ cs) none stand rest total long is =
-        lost.lacks c (map record_of (delivered (cs ++ back)) ++ []) (chain form.Sha1 (Some (commit_after form.Sha1 (last_commit None lost.here) (in_file c))) (map in_file cs)) stand.0
-        (first_front rs [] ((lost.before ++ lost.here) ++ c ∷ []) (cs ++ back) (subst (AreFirst rs []) (is ∙ sym (append_assoc (lost.before ++ lost.here) (c ∷ []) (cs ++ back))) opened.first)) rest
+        lost.lacks c (map (record_of root.config.form) (delivered (cs ++ back)) ++ []) (chain root.config.form (Some (commit_after root.config.form (last_commit root.config.form None lost.here) (in_file c))) (map in_file cs)) stand.0
+        (first_front root.config.form rs [] ((lost.before ++ lost.here) ++ c ∷ []) (cs ++ back) (subst (AreFirst root.config.form rs []) (is ∙ sym (append_assoc (lost.before ++ lost.here) (c ∷ []) (cs ++ back))) opened.first)) rest
 
 -- Files that are opened have no damage.
 pub opened_undamaged : EntriesDiffer → EpochsDiffer → OpenedUndamaged

@@ -2,7 +2,7 @@
 -- the first offset at which they stand for none.
 use Rattle.std.specs.Prelude.{◌≡◌, ◌≢◌, ◌⊎◌, ◌+◌, ◌<◌, ℕ, nat_lt, Bool, List, [], ◌∷◌, ◌++◌, length, take, map, get_or, None}
 use Rattle.std.specs.List.{AllByRecursion, filter}
-use Rattle.arch_base.specs.declared.ids.Form.TheVariants as form
+use Rattle.arch_base.specs.declared.ids.Form.{Form}
 use Rattle.disk_model.specs.Disk.{Files, bytes_of}
 use Rattle.disk_model.specs.Sizes.{epoch_count}
 use Rattle.git_objects.specs.Objects.{blob_id_of}
@@ -27,20 +27,20 @@ has_message r = nat_lt r.epoch epoch_count
 abbrev pub messages : List Record → List Record
 messages rs = filter has_message rs
 
--- The record of an entry.
-abbrev pub record_of : Entry → Record
-record_of e = record { number = e.number; epoch = e.epoch; blob = blob_id_of form.Sha1 e.text }
+-- The record of an entry, whose blob id has a form.
+abbrev pub record_of : Form → Entry → Record
+record_of form e = record { number = e.number; epoch = e.epoch; blob = blob_id_of form e.text }
 
 -- These may be an archive's entries: numbers rise, each deletion ends a live message, the ids of live
--- messages differ at each place, and each blob id has one text. The records of their messages are
--- the first of a map's that have a message, followed by the others.
-pub record AreFirst (rs after : List Record) (entries : List Entry) : Type 0 where
+-- messages differ at each place, and each blob id of a form has one text. The records of their
+-- messages in the form are the first of a map's that have a message, followed by the others.
+pub record AreFirst (form : Form) (rs after : List Record) (entries : List Entry) : Type 0 where
   pub valid : AllByRecursion IsEntry entries
   pub order : Rise 1 0 entries
   pub ends : AtEachPlace (λ (before : List Entry) (e : Entry). EndsLive e.kind before e) [] entries
   pub ids : AtEachPlace LiveDiffer [] entries
-  pub blobs : BlobsAgree entries
-  pub records : messages rs ≡ map record_of (delivered entries) ++ after
+  pub blobs : BlobsAgree form entries
+  pub records : messages rs ≡ map (record_of form) (delivered entries) ++ after
 
 -- The length of an epoch that a root names.
 abbrev pub named_length : Root → ℕ → ℕ
@@ -50,19 +50,20 @@ named_length root e = (get_or root.epochs e no_place).length
 abbrev pub named_bytes : Root → Files → ℕ → List ℕ
 named_bytes root files e = take (named_length root e) (bytes_of (files (epoch_file_of root e)))
 
--- Each epoch below one has exactly the bytes of these entries that are in it, with the length that
--- the root names.
+-- Each epoch below one has exactly the bytes of these entries that are in it, in the form of the
+-- root's settings and with the length that the root names.
 pub record AreWhole (root : Root) (files : Files) (epoch : ℕ) (entries : List Entry) : Type 0 where
   pub below : AllByRecursion (λ (e : Entry). e.epoch < epoch) entries
-  pub lengths : (e : ℕ) → e < epoch → named_length root e ≡ length (epoch_bytes (in_epoch entries e))
+  pub lengths : (e : ℕ) → e < epoch
+      → named_length root e ≡ length (epoch_bytes root.config.form (in_epoch entries e))
   pub fronts : (e : ℕ) → e < epoch
-      → Fronts (epoch_bytes (in_epoch entries e)) (files (epoch_file_of root e))
+      → Fronts (epoch_bytes root.config.form (in_epoch entries e)) (files (epoch_file_of root e))
 
 -- The files of all epochs are those of these entries, and they have all records of the map that
 -- have a message.
 pub record AreOpened (root : Root) (files : Files) (rs : List Record) (entries : List Entry)
     : Type 0 where
-  pub first : AreFirst rs [] entries
+  pub first : AreFirst root.config.form rs [] entries
   pub whole : AreWhole root files epoch_count entries
 
 -- The epochs below this one are whole, and have the first entries of the map. This one doesn't
@@ -71,10 +72,11 @@ pub record LacksFront (root : Root) (files : Files) (rs : List Record) (epoch of
     : Type 0 where
   pub before : List Entry
   pub after : List Record
-  pub first : AreFirst rs after before
+  pub first : AreFirst root.config.form rs after before
   pub whole : AreWhole root files epoch before
   pub some : 0 < named_length root epoch
-  pub lacks : LacksMagic form.Sha1 (named_length root epoch) (bytes_of (files (epoch_file_of root epoch)))
+  pub lacks : LacksMagic root.config.form (named_length root epoch)
+      (bytes_of (files (epoch_file_of root epoch)))
   pub offset_is : offset ≡ 0
 
 -- The epochs below this one are whole. This one starts with the magic and some entries, and all of
@@ -86,15 +88,16 @@ pub record LacksNext (root : Root) (files : Files) (rs : List Record) (epoch off
   pub here : List Entry
   pub after : List Record
   pub rest : List ℕ
-  pub first : AreFirst rs after (before ++ here)
+  pub first : AreFirst root.config.form rs after (before ++ here)
   pub whole : AreWhole root files epoch before
   pub stand : AllByRecursion (λ (e : Entry). e.epoch ≡ epoch) here
-  pub spelled : named_bytes root files epoch ≡ (magic form.Sha1 ++ entries_bytes None here) ++ rest
-  pub offset_is : offset ≡ 8 + length (entries_bytes None here)
+  pub spelled : named_bytes root files epoch
+      ≡ (magic root.config.form ++ entries_bytes root.config.form None here) ++ rest
+  pub offset_is : offset ≡ 8 + length (entries_bytes root.config.form None here)
   pub wanted : (here ≡ []) ⊎ (offset < named_length root epoch)
   pub lacks : (next : Entry) (others : List Record) (more : List ℕ) → next.epoch ≡ epoch
-      → AreFirst rs others ((before ++ here) ++ next ∷ [])
-      → rest ≢ bytes_after form.Sha1 (last_commit None here) (in_file next) ++ more
+      → AreFirst root.config.form rs others ((before ++ here) ++ next ∷ [])
+      → rest ≢ bytes_after root.config.form (last_commit root.config.form None here) (in_file next) ++ more
 
 -- All epochs are whole, and have the first entries of the map. The map has one more record, whose
 -- message should be in this epoch, after its end.
@@ -103,7 +106,7 @@ pub record LacksLast (root : Root) (files : Files) (rs : List Record) (epoch off
   pub before : List Entry
   pub next : Record
   pub after : List Record
-  pub first : AreFirst rs (next ∷ after) before
+  pub first : AreFirst root.config.form rs (next ∷ after) before
   pub whole : AreWhole root files epoch_count before
   pub stands : epoch ≡ next.epoch
   pub offset_is : offset ≡ named_length root epoch

@@ -1,7 +1,6 @@
 -- The result of reading an archive's files when it is opened: what is kept of the archive, that
 -- there is none, or the first offset at which the files that the root names aren't in their form.
 use Rattle.std.specs.Prelude.{◌≡◌, ◌⊎◌, ◌+◌, ◌-◌, ◌<◌, ℕ, List, length, Result, Ok, Err}
-use Rattle.arch_base.specs.declared.ids.Form.TheVariants as form
 use Rattle.disk_model.specs.declared.name.FileName.{FileName}
 use Rattle.disk_model.specs.Disk.{Files, bytes_of}
 use Rattle.disk_model.specs.Sizes.{epoch_count}
@@ -36,7 +35,7 @@ pub record IsCurrentRoot (root : Root) (slot : ℕ) (files : Files) : Type 0 whe
 
 -- The map that a root names starts with the records of all numbers below the next one.
 pub record HasRecords (root : Root) (files : Files) (rs : List Record) : Type 0 where
-  pub begins : BeginsWithRecords form.Sha1 rs (bytes_of (files (map_file_of root)))
+  pub begins : BeginsWithRecords root.config.form rs (bytes_of (files (map_file_of root)))
   pub count : length rs ≡ root.next - 1
 
 -- What was found is what the files stand for: their current root and its slot, and the entries of
@@ -58,7 +57,8 @@ pub record IsDamagedMap (files : Files) (file : FileName) (at : ℕ) : Type 0 wh
   pub slot : ℕ
   pub current : IsCurrentRoot root slot files
   pub file_is : file ≡ map_file_of root
-  pub damaged : map_walks.LacksRecord form.Sha1 (root.next - 1) at (bytes_of (files (map_file_of root)))
+  pub damaged : map_walks.LacksRecord root.config.form (root.next - 1) at
+      (bytes_of (files (map_file_of root)))
 
 -- The map that the current root names is whole, and an epoch is the first one that is damaged.
 pub record IsDamagedEpoch (files : Files) (file : FileName) (at : ℕ) : Type 0 where
@@ -95,7 +95,7 @@ abbrev pub FindsRecords : Root → Files → Result (List Record) OpenRefusal �
 FindsRecords root files (Ok rs) = HasRecords root files rs
 FindsRecords root files (Err NoArchive) = ⊥
 FindsRecords root files (Err (Damaged file at)) = (file ≡ map_file_of root)
-    × map_walks.LacksRecord form.Sha1 (root.next - 1) at (bytes_of (files (map_file_of root)))
+    × map_walks.LacksRecord root.config.form (root.next - 1) at (bytes_of (files (map_file_of root)))
 FindsRecords root files (Err _) = Unit {0}
 
 -- A file is that of an epoch, and it is the first one that is damaged.
@@ -124,7 +124,7 @@ abbrev pub ReadsSeen : Root → ℕ → JoinedEntries → List Seen → Result J
     → Files → Type 0
 ReadsSeen root epoch old seen result files =
     (rs : List Record) → RootFits root → IsReadUpTo root files rs epoch old
-    → IsEpoch form.Sha1 (named_length root epoch) (bytes_of (files (epoch_file_of root epoch))) seen
+    → IsEpoch root.config.form (named_length root epoch) (bytes_of (files (epoch_file_of root epoch))) seen
     → ReadsEpochsUpTo root files rs (epoch + 1) result
 
 -- Why an epoch isn't read whose file is no epoch from an offset on, whatever was read before.
@@ -132,7 +132,7 @@ abbrev pub StopsEpoch : Root → ℕ → JoinedEntries → ℕ → OpenRefusal �
 StopsEpoch root epoch old offset refusal files =
     (rs : List Record) → RootFits root → 0 < named_length root epoch
     → IsReadUpTo root files rs epoch old
-    → IsDamagedEpochAt form.Sha1 (named_length root epoch)
+    → IsDamagedEpochAt root.config.form (named_length root epoch)
     (bytes_of (files (epoch_file_of root epoch))) offset
     → StopsBy root files rs refusal
 
@@ -140,9 +140,9 @@ StopsEpoch root epoch old offset refusal files =
 abbrev pub StopsSeen : Root → ℕ → JoinedEntries → ℕ → List Seen → OpenRefusal → Files → Type 0
 StopsSeen root epoch old offset seen refusal files =
     (rs : List Record) → RootFits root → IsReadUpTo root files rs epoch old
-    → IsDamagedEpochAt form.Sha1 (named_length root epoch)
+    → IsDamagedEpochAt root.config.form (named_length root epoch)
     (bytes_of (files (epoch_file_of root epoch))) offset
-    → IsEpoch form.Sha1 offset (bytes_of (files (epoch_file_of root epoch))) seen
+    → IsEpoch root.config.form offset (bytes_of (files (epoch_file_of root epoch))) seen
     → StopsBy root files rs refusal
 
 -- All epochs are read, or why not, if none was read before.
@@ -182,6 +182,6 @@ abbrev pub FindsEntries : Root → Files → Result (List StoredEntry) OpenRefus
 FindsEntries root files (Ok kept) = HasEntries root files kept
 FindsEntries root files (Err NoArchive) = ⊥
 FindsEntries root files (Err (Damaged file at)) = ((file ≡ map_file_of root)
-    × map_walks.LacksRecord form.Sha1 (root.next - 1) at (bytes_of (files (map_file_of root))))
+    × map_walks.LacksRecord root.config.form (root.next - 1) at (bytes_of (files (map_file_of root))))
     ⊎ LacksEntries root files file at
 FindsEntries root files (Err _) = Unit {0}

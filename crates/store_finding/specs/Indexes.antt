@@ -1,6 +1,7 @@
 -- The index of what is kept of entries.
 use Rattle.std.specs.Prelude.{◌≡◌, List, []}
 use Rattle.std.specs.List.{AllByRecursion}
+use Rattle.arch_base.specs.declared.ids.Form.{Form}
 use Rattle.git_objects.specs.declared.entry_kind.EntryKind.{EntryKind}
 use Rattle.git_objects.specs.declared.entry_kind.EntryKind.TheVariants.{Message, Deletion}
 use Rattle.arch_model.specs.Archives.{Entry}
@@ -23,14 +24,15 @@ pub record EntriesAreInOrder (entries : List Entry) : Type 0 where
   pub ends : AtEachPlace (λ (before : List Entry) (e : Entry). EndsLive e.kind before e) [] entries
   pub ids : AtEachPlace LiveDiffer [] entries
 
--- What is kept is that of these entries, which are in order.
-pub record AreOf (kept : List StoredEntry) (entries : List Entry) : Type 0 where
+-- What is kept is that of these entries in a form, and they are in order.
+pub record AreOf (form : Form) (kept : List StoredEntry) (entries : List Entry) : Type 0 where
   pub ordered : EntriesAreInOrder entries
-  pub is : kept ≡ stored_after [] entries
+  pub is : kept ≡ stored_after form [] entries
 
--- An index is that of the entries of which this is kept.
+-- An index is that of the entries of which this is kept, in whatever form it is kept.
 abbrev pub IndexesStored : List StoredEntry → Index → Type 0
-IndexesStored kept index = (entries : List Entry) → AreOf kept entries → IsArchiveIndex entries index
+IndexesStored kept index = (form : Form) (entries : List Entry) → AreOf form kept entries
+    → IsArchiveIndex form entries index
 
 -- An entry of a kind was taken into an index: a message was put there, or the own id of the one that a
 -- deletion ends was removed.

@@ -2,7 +2,7 @@
 use Rattle.std.specs.Prelude.{◌≡◌, ◌⊎◌, ◌+◌, ◌<◌, ◌≤◌, ℕ, Bool, true, take, drop, List, [], ◌∷◌, ◌++◌, length, map, slice_get, Option, Some, None, Result, Ok, Err}
 use Rattle.std.specs.List.{AllByRecursion, filter}
 use Rattle.std.specs.Str.{bytes_eq}
-use Rattle.arch_base.specs.declared.ids.Form.TheVariants as form
+use Rattle.arch_base.specs.declared.ids.Form.{Form}
 use Rattle.arch_base.specs.declared.ids.ObjectId.{ObjectId}
 use Rattle.disk_model.specs.Sizes.{epoch_count}
 use Rattle.arch_model.specs.Epochs.{entries_bytes}
@@ -34,17 +34,19 @@ pub record JoinedEntries : Type 0 where
   pub records : List Record
   pub entries : List StoredEntry
 
--- The records are those of a valid map that have a message, the entries are these, and their
--- records are the first of them, followed by the others.
-pub record HoldsJoined (v : JoinedEntries) (rs after : List Record) (entries : List Entry) : Type 0 where
-  pub numbered : AreRecordsFrom form.Sha1 1 rs
+-- The records are those of a valid map of a form that have a message, the entries are these, and
+-- their records are the first of them, followed by the others.
+pub record HoldsJoined (form : Form) (v : JoinedEntries) (rs after : List Record) (entries : List Entry)
+    : Type 0 where
+  pub numbered : AreRecordsFrom form 1 rs
   pub records : v.records ≡ messages rs
-  pub entries_are : v.entries ≡ stored_after [] entries
-  pub first : AreFirst rs after entries
+  pub entries_are : v.entries ≡ stored_after form [] entries
+  pub first : AreFirst form rs after entries
 
--- What is so of the entries if they are those of the first records of a map.
-abbrev pub OfJoined : JoinedEntries → (List Entry → Type 0) → Type 0
-OfJoined v P = (rs after : List Record) (entries : List Entry) → HoldsJoined v rs after entries → P entries
+-- What is so of a form and the entries if these are those of the first records of a map of the form.
+abbrev pub OfJoined : JoinedEntries → (Form → List Entry → Type 0) → Type 0
+OfJoined v P = (form : Form) (rs after : List Record) (entries : List Entry)
+    → HoldsJoined form v rs after entries → P form entries
 
 -- How many of the entries that are kept are messages.
 abbrev pub message_count : List StoredEntry → ℕ
@@ -134,23 +136,24 @@ pub record JoinsMessage (v : JoinedEntries) (all : List Entry) (epoch : ℕ) (se
   pub wanted : IsWantedRecord v epoch seen number
   pub id : owner (live all) seen.id ≡ None
 
--- A deletion joins others: the live entry with its own id has its blob id, too, and this number.
-pub record JoinsDeletion (all : List Entry) (seen : Seen) (number : ℕ) : Type 0 where
+-- A deletion joins others: the live entry with its own id has its blob id, too, in a form, and this
+-- number.
+pub record JoinsDeletion (form : Form) (all : List Entry) (seen : Seen) (number : ℕ) : Type 0 where
   pub deletion : seen.kind ≡ Deletion
   pub ended : Entry
   pub live : owner (live all) seen.id ≡ Some ended
-  pub blob : blob_id_of form.Sha1 ended.text ≡ seen.blob
+  pub blob : blob_id_of form ended.text ≡ seen.blob
   pub number_is : ended.number ≡ number
 
 -- The number of the message that a deletion ends, or that it ends none.
-abbrev pub EndedBy : List Entry → Seen → Option ℕ → Type 0
-EndedBy all seen (Some number) = JoinsDeletion all seen number
-EndedBy all seen None = (number : ℕ) → JoinsDeletion all seen number → ⊥
+abbrev pub EndedBy : Form → List Entry → Seen → Option ℕ → Type 0
+EndedBy form all seen (Some number) = JoinsDeletion form all seen number
+EndedBy form all seen None = (number : ℕ) → JoinsDeletion form all seen number → ⊥
 
 -- An entry joins others, and an older one with its blob id, if there is one, has the same text.
-abbrev pub JoinsNext : JoinedEntries → List Entry → ℕ → Seen → Bool → ℕ → Type 0
-JoinsNext v all epoch seen same number = (same ≡ true)
-    × (JoinsMessage v all epoch seen number ⊎ JoinsDeletion all seen number)
+abbrev pub JoinsNext : Form → JoinedEntries → List Entry → ℕ → Seen → Bool → ℕ → Type 0
+JoinsNext form v all epoch seen same number = (same ≡ true)
+    × (JoinsMessage v all epoch seen number ⊎ JoinsDeletion form all seen number)
 
 -- An older entry has the blob id of an entry. Where its text was read, and where the entry has its
 -- own: whether the two are the same.
@@ -166,15 +169,15 @@ pub record IsCompared (root : Root) (files : Files) (kept : List StoredEntry) (e
       → same ≡ bytes_eq old new
 
 -- No older entry has the blob id of an entry, or the text of one that has it was compared.
-abbrev pub IsSameText : Root → Files → JoinedEntries → List Entry → ℕ → Seen → Bool → Type 0
-IsSameText root files v all epoch seen same =
-    ((blob_number all seen.blob ≡ None) × (same ≡ true))
+abbrev pub IsSameText : Form → Root → Files → JoinedEntries → List Entry → ℕ → Seen → Bool → Type 0
+IsSameText form root files v all epoch seen same =
+    ((blob_number form all seen.blob ≡ None) × (same ≡ true))
     ⊎ IsCompared root files v.entries epoch seen same
 
 -- The result of comparing an entry's text with that of an older entry with its blob id.
 abbrev pub ComparesText : Root → JoinedEntries → ℕ → Seen → Result Bool JoinRefusal → Files → Type 0
 ComparesText root v epoch seen (Ok same) files =
-    OfJoined v (λ (all : List Entry). IsSameText root files v all epoch seen same)
+    OfJoined v (λ (form : Form) (all : List Entry). IsSameText form root files v all epoch seen same)
 ComparesText root v epoch seen (Err (Damaged at)) files = ⊥
 ComparesText root v epoch seen (Err _) files = Unit {0}
 
@@ -190,9 +193,10 @@ IsGrown old epoch seen new = (number : ℕ) × (new ≡ with_seen old number epo
 -- An entry was joined, as one that may be, or can't be and its offset is the result.
 abbrev pub JoinsOne : JoinedEntries → ℕ → Seen → Bool → Result JoinedEntries JoinRefusal → Type 0
 JoinsOne old epoch seen same (Ok new) = (number : ℕ) × (new ≡ with_seen old number epoch seen)
-    × OfJoined old (λ (all : List Entry). JoinsNext old all epoch seen same number)
+    × OfJoined old (λ (form : Form) (all : List Entry). JoinsNext form old all epoch seen same number)
 JoinsOne old epoch seen same (Err (Damaged at)) = (at ≡ seen.at)
-    × OfJoined old (λ (all : List Entry). (number : ℕ) → JoinsNext old all epoch seen same number → ⊥)
+    × OfJoined old (λ (form : Form) (all : List Entry). (number : ℕ)
+    → JoinsNext form old all epoch seen same number → ⊥)
 JoinsOne old epoch seen same (Err DiskFault) = ⊥
 JoinsOne old epoch seen same (Err NoMemory) = Unit {0}
 
@@ -206,55 +210,57 @@ JoinsByText root old epoch seen (Ok new) files =
     × JoinsOne old epoch seen same (Ok new)
 JoinsByText root old epoch seen (Err _) files = Unit {0}
 
--- The entries of an epoch are all joined to others.
-pub record AreJoined (new : JoinedEntries) (rs : List Record) (others : List Entry) (epoch : ℕ)
-    (here : List EpochEntry) : Type 0 where
+-- The entries of an epoch are all joined to others, in a form.
+pub record AreJoined (form : Form) (new : JoinedEntries) (rs : List Record) (others : List Entry)
+    (epoch : ℕ) (here : List EpochEntry) : Type 0 where
   pub more : List Entry
   pub after : List Record
   pub stand : AllByRecursion (λ (e : Entry). e.epoch ≡ epoch) more
   pub are : here ≡ map in_file more
-  pub holds : HoldsJoined new rs after (others ++ more)
+  pub holds : HoldsJoined form new rs after (others ++ more)
 
--- Some first entries of an epoch can be joined to others, and the one after them, at this offset,
--- can't: as a message it isn't the map's next one or its own id is live, as a deletion it ends nothing
--- that is live, or an older entry with its blob id has another text.
-pub record StopsAt (rs : List Record) (others : List Entry) (epoch : ℕ) (here : List EpochEntry)
-    (offset : ℕ) : Type 0 where
+-- Some first entries of an epoch can be joined to others, in a form, and the one after them, at this
+-- offset, can't: as a message it isn't the map's next one or its own id is live, as a deletion it ends
+-- nothing that is live, or an older entry with its blob id has another text.
+pub record StopsAt (form : Form) (rs : List Record) (others : List Entry) (epoch : ℕ)
+    (here : List EpochEntry) (offset : ℕ) : Type 0 where
   pub more : List Entry
   pub after : List Record
   pub wrong : EpochEntry
   pub rest : List EpochEntry
   pub stand : AllByRecursion (λ (e : Entry). e.epoch ≡ epoch) more
   pub are : here ≡ map in_file more ++ wrong ∷ rest
-  pub first : AreFirst rs after (others ++ more)
-  pub offset_is : offset ≡ 8 + length (entries_bytes None more)
+  pub first : AreFirst form rs after (others ++ more)
+  pub offset_is : offset ≡ 8 + length (entries_bytes form None more)
   pub no_next : (next : Entry) (left : List Record) → next.epoch ≡ epoch → in_file next ≡ wrong
-      → AreFirst rs left ((others ++ more) ++ next ∷ []) → ⊥
+      → AreFirst form rs left ((others ++ more) ++ next ∷ []) → ⊥
 
 -- The results of joining the entries of an epoch: all of them, or the offset of the first one that
 -- can't be joined.
-abbrev pub JoinsAll : List Record → List Entry → ℕ → List EpochEntry → Result JoinedEntries JoinRefusal
-    → Type 0
-JoinsAll rs others epoch here (Ok new) = AreJoined new rs others epoch here
-JoinsAll rs others epoch here (Err (Damaged at)) = StopsAt rs others epoch here at
-JoinsAll rs others epoch here (Err _) = Unit {0}
+abbrev pub JoinsAll : Form → List Record → List Entry → ℕ → List EpochEntry
+    → Result JoinedEntries JoinRefusal → Type 0
+JoinsAll form rs others epoch here (Ok new) = AreJoined form new rs others epoch here
+JoinsAll form rs others epoch here (Err (Damaged at)) = StopsAt form rs others epoch here at
+JoinsAll form rs others epoch here (Err _) = Unit {0}
 
--- The same for whatever is joined before, and for whatever entries the epoch's file has that were
--- recorded so. The epochs before it are whole, so that their texts are read.
+-- The same in the form of a root's settings, for whatever is joined before, and for whatever entries
+-- the epoch's file has that were recorded so. The epochs before it are whole, so that their texts are
+-- read.
 abbrev pub TakesEpoch : Root → JoinedEntries → ℕ → List Seen → Result JoinedEntries JoinRefusal
     → Files → Type 0
 TakesEpoch root old epoch seen result files =
     (rs after : List Record) (others : List Entry) (here : List EpochEntry)
-    → HoldsJoined old rs after others → AreWhole root files epoch others
-    → Fronts (epoch_of form.Sha1 here) (files (epoch_file_of root epoch))
-    → AreEpochEntries here → seen ≡ seen_from form.Sha1 8 None here
-    → JoinsAll rs others epoch here result
+    → HoldsJoined root.config.form old rs after others → AreWhole root files epoch others
+    → Fronts (epoch_of root.config.form here) (files (epoch_file_of root epoch))
+    → AreEpochEntries here → seen ≡ seen_from root.config.form 8 None here
+    → JoinsAll root.config.form rs others epoch here result
 
 -- All records of the map that have a message have an entry, and this is what is kept; or the first
 -- one without an entry should be in this epoch.
 abbrev pub FinishesJoin : JoinedEntries → Result (List StoredEntry) Unmatched → Type 0
-FinishesJoin v (Ok kept) = (rs after : List Record) (entries : List Entry) → HoldsJoined v rs after entries
-    → (kept ≡ stored_after [] entries) × AreFirst rs [] entries
-FinishesJoin v (Err refusal) = (rs after : List Record) (entries : List Entry)
-    → HoldsJoined v rs after entries → (next : Record) × (left : List Record)
-    × AreFirst rs (next ∷ left) entries × (next.epoch ≡ refusal.epoch)
+FinishesJoin v (Ok kept) = (form : Form) (rs after : List Record) (entries : List Entry)
+    → HoldsJoined form v rs after entries
+    → (kept ≡ stored_after form [] entries) × AreFirst form rs [] entries
+FinishesJoin v (Err refusal) = (form : Form) (rs after : List Record) (entries : List Entry)
+    → HoldsJoined form v rs after entries → (next : Record) × (left : List Record)
+    × AreFirst form rs (next ∷ left) entries × (next.epoch ≡ refusal.epoch)

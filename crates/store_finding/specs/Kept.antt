@@ -1,6 +1,6 @@
 -- What is kept in memory of an archive, and which disk is its own.
 use Rattle.std.specs.Prelude.{◌-◌, slice_get, ◌≡◌, ◌+◌, ◌≤◌, ℕ, List, [], ◌∷◌, ◌++◌, length, Option, Some, None}
-use Rattle.arch_base.specs.declared.ids.Form.TheVariants as form
+use Rattle.arch_base.specs.declared.ids.Form.{Form}
 use Rattle.disk_model.specs.Disk.{Content}
 use Rattle.disk_model.specs.Sizes.{greatest_epoch}
 use Rattle.arch_model.specs.Archives.{Entry, Archive, in_epoch}
@@ -24,26 +24,26 @@ pub record StoreState : Type 0 where
 abbrev pub in_file : Entry → EpochEntry
 in_file e = record { kind = e.kind; text = e.text; moment = e.moment }
 
--- What is kept of an entry after others: its offset follows the epoch's first eight bytes and the
--- other entries of its epoch.
-abbrev pub stored_at : List Entry → Entry → StoredEntry
-stored_at before e = record {
+-- What is kept of an entry in a form, after others: its offset follows the epoch's first eight bytes
+-- and the other entries of its epoch.
+abbrev pub stored_at : Form → List Entry → Entry → StoredEntry
+stored_at form before e = record {
   number = e.number;
   epoch = e.epoch;
-  seen = seen_at form.Sha1 (8 + length (entries_bytes None (in_epoch before e.epoch)))
-      (last_commit None (in_epoch before e.epoch)) (in_file e);
+  seen = seen_at form (8 + length (entries_bytes form None (in_epoch before e.epoch)))
+      (last_commit form None (in_epoch before e.epoch)) (in_file e);
 }
 
--- What is kept of entries after others.
-abbrev pub stored_after : List Entry → List Entry → List StoredEntry
-stored_after before [] = []
-stored_after before (e ∷ es) = stored_at before e ∷ stored_after (before ++ e ∷ []) es
+-- What is kept of entries in a form, after others.
+abbrev pub stored_after : Form → List Entry → List Entry → List StoredEntry
+stored_after form before [] = []
+stored_after form before (e ∷ es) = stored_at form before e ∷ stored_after form (before ++ e ∷ []) es
 
--- A store keeps an archive: the root that names it, and its entries.
+-- A store keeps an archive: the root that names it, and its entries in the form of its settings.
 pub record KeepsArchive (v : StoreState) (a : Archive) : Type 0 where
   pub valid : IsArchive a
   pub names : NamesArchive v.root a
-  pub kept : v.entries ≡ stored_after [] a.entries
+  pub kept : v.entries ≡ stored_after a.config.form [] a.entries
 
 -- A disk is a store's own, and holds this archive with a cache of these bytes: the store keeps it,
 -- and the disk is exactly the archive's by the store's root.

@@ -1,6 +1,5 @@
 -- What is found when an archive is opened is what its files stand for.
 use Rattle.std.specs.Prelude.{◌≡◌, ◌-◌, ℕ, List, [], length, take}
-use Rattle.arch_base.specs.declared.ids.Form.TheVariants as form
 use Rattle.disk_model.specs.Disk.{Files, bytes_of}
 use Rattle.arch_model.specs.Archives.{Entry, Archive}
 use Rattle.number_map.specs.declared.line.Record.{Record}
@@ -28,7 +27,7 @@ pub record HasMap (root : Root) (files : Files) (rs : List Record) : Type 0 wher
   pub fits : RootFits root
   pub current : IfThere (HasRoot (spelling root)) (files root_name)
   pub count : length rs ≡ root.next - 1
-  pub begins : BeginsWithRecords form.Sha1 rs (bytes_of (files (map_file_of root)))
+  pub begins : BeginsWithRecords root.config.form rs (bytes_of (files (map_file_of root)))
 
 -- The epochs below one are read and whole, and their entries are joined to the first records of the
 -- map.
@@ -36,7 +35,7 @@ pub record IsReadUpTo (root : Root) (files : Files) (rs : List Record) (epoch : 
     : Type 0 where
   pub entries : List Entry
   pub after : List Record
-  pub holds : HoldsJoined v rs after entries
+  pub holds : HoldsJoined root.config.form v rs after entries
   pub whole : AreWhole root files epoch entries
 
 -- All epochs are read, and this is kept of their entries.
@@ -44,7 +43,7 @@ pub record AreRead (root : Root) (files : Files) (rs : List Record) (kept : List
     : Type 0 where
   pub entries : List Entry
   pub opened : AreOpened root files rs entries
-  pub kept_are : kept ≡ stored_after [] entries
+  pub kept_are : kept ≡ stored_after root.config.form [] entries
 
 -- The bytes of the cache that a root names: those that are there, up to as many as it says.
 abbrev pub cache_in : Root → Files → List ℕ
@@ -76,6 +75,7 @@ RecoversMap = (root : Root) (files : Files) (a : Archive) (cache : List ℕ)
 abbrev pub RecoversUndamaged : Type 0
 RecoversUndamaged =
     (root : Root) (files : Files) (a : Archive) (cache : List ℕ) → RecoversArchiveBy root cache files a
-    → ((offset : ℕ) → LacksRecord form.Sha1 (root.next - 1) offset (bytes_of (files (map_file_of root))) → ⊥)
+    → ((offset : ℕ)
+    → LacksRecord root.config.form (root.next - 1) offset (bytes_of (files (map_file_of root))) → ⊥)
     × ((rs : List Record) (epoch offset : ℕ) → HasMap root files rs
     → IsFirstDamage root files rs epoch offset → ⊥)

@@ -1,7 +1,7 @@
 -- Which files stand for an archive.
 use Rattle.std.specs.Prelude.{◌≡◌, ◌+◌, ◌-◌, ◌<◌, ◌≤◌, ◌==◌, ℕ, zero, suc, List, [], ◌∷◌, length, get_or, Option, Some, None, if◌then◌else◌}
 use Rattle.std.specs.List.{flat_map}
-use Rattle.arch_base.specs.declared.ids.Form.TheVariants as form
+use Rattle.arch_base.specs.declared.ids.Form.{Form}
 use Rattle.disk_model.specs.declared.name.FileKind.TheVariants as kind
 use Rattle.disk_model.specs.Disk.{Files}
 use Rattle.disk_model.specs.Sizes.{epoch_count}
@@ -23,20 +23,20 @@ abbrev pub entry_of : List Entry → ℕ → Option Entry
 entry_of [] n = None
 entry_of (e ∷ es) n = if e.number == n then Some e else entry_of es n
 
--- The record of a number: the epoch and the blob id of its message, or that it has none.
-abbrev pub record_for : ℕ → Option Entry → Record
-record_for n None = record { number = n; epoch = 4294967295; blob = zero_id form.Sha1 }
-record_for n (Some e) = record { number = n; epoch = e.epoch; blob = blob_id_of form.Sha1 e.text }
+-- The record of a number in a form: the epoch and the blob id of its message, or that it has none.
+abbrev pub record_for : Form → ℕ → Option Entry → Record
+record_for form n None = record { number = n; epoch = 4294967295; blob = zero_id form }
+record_for form n (Some e) = record { number = n; epoch = e.epoch; blob = blob_id_of form e.text }
 
--- The records of `count` numbers from one on.
-abbrev pub records_from : List Entry → ℕ → ℕ → List Record
-records_from entries n zero = []
-records_from entries n (suc count) =
-    record_for n (entry_of entries n) ∷ records_from entries (n + 1) count
+-- The records in a form of `count` numbers from one on.
+abbrev pub records_from : Form → List Entry → ℕ → ℕ → List Record
+records_from form entries n zero = []
+records_from form entries n (suc count) =
+    record_for form n (entry_of entries n) ∷ records_from form entries (n + 1) count
 
 -- The records of an archive: one for each number below the next one, of its message, live or not.
 abbrev pub records_of : Archive → List Record
-records_of a = records_from (messages a.entries) 1 (a.next - 1)
+records_of a = records_from a.config.form (messages a.entries) 1 (a.next - 1)
 
 -- The bytes of the map of an archive.
 abbrev pub map_bytes : Archive → List ℕ
@@ -44,7 +44,7 @@ map_bytes a = flat_map record_bytes (records_of a)
 
 -- The bytes of an epoch of an archive.
 abbrev pub bytes_in : Archive → ℕ → List ℕ
-bytes_in a e = epoch_bytes (in_epoch a.entries e)
+bytes_in a e = epoch_bytes a.config.form (in_epoch a.entries e)
 
 -- The parts of an archive, with these bytes of a cache.
 abbrev pub parts_of : Archive → List ℕ → Parts

@@ -2,7 +2,6 @@
 //! Reads the disk.
 ghost use Rattle.std.specs.Prelude.{◌≡◌, ◌≢◌, ◌+◌, ◌<◌, ◌≤◌, Err, IfOk, get_or};
 ghost use Rattle.arch_base.specs.Counts.{Rose, RoseIf};
-ghost use Rattle.arch_base.specs.declared.ids.Form.TheVariants as form;
 ghost use Rattle.disk_model.specs.Disk.{Image, BothTold, WhereTold, Unchanged};
 ghost use Rattle.disk_model.specs.Moments.{LeavesOnly};
 ghost use Rattle.disk_model.specs.Sizes.{epoch_count, greatest_epoch};
@@ -23,7 +22,6 @@ use crate::entries::StoredEntry;
 use crate::indexing::IndexedEntries;
 use crate::join_refusal::JoinRefusal;
 use crate::joining::Joining;
-use arch_base::Form;
 use arch_judge::Index;
 use arch_model::OpenRefusal;
 use disk_model::{Disk, EPOCHS, FileKind, FileName, WalkRefusal};
@@ -104,14 +102,14 @@ fn find_root<D: Disk>(disk: &mut D) -> Result<(Slot, Root), OpenRefusal>
 fn find_records<D: Disk>(alloc: Global, disk: &mut D, root: &Root) -> Result<Records, OpenRefusal>
     requires root { IsRoot root.now }
     ensures found { WhereTold (λ k. FindsRecords root.now (as_read k) result) (D.content disk.old) }
-    ensures valid { IfOk result (AreRecordsFrom form.Sha1 1) }
+    ensures valid { IfOk result (AreRecordsFrom root.now.config.form 1) }
     ensures reads { OnlyReads D.Disk disk.old disk.new }
     ensures fault { result ≡ Err OpenRefusal.DiskFault
         → Rose (D.faults disk.old) (D.faults disk.new) }
     ensures steady { result ≢ Err OpenRefusal.DiskFault → D.faults disk.new ≡ D.faults disk.old }
 {
     let file = map_file(root.map.generation);
-    match number_map::walk(alloc, disk, file, root.next - 1, Form::Sha1) {
+    match number_map::walk(alloc, disk, file, root.next - 1, root.config.form) {
         Ok(records) => Ok(records),
         Err(WalkRefusal::Damaged { at }) => Err(OpenRefusal::Damaged { file, at }),
         Err(WalkRefusal::DiskFault) => Err(OpenRefusal::DiskFault),
@@ -212,7 +210,7 @@ fn stop_at<D: Disk>(
     if at <= 8 {
         return OpenRefusal::Damaged { file, at };
     }
-    match epoch_file::walk(alloc, disk, file, at, Form::Sha1) {
+    match epoch_file::walk(alloc, disk, file, at, root.config.form) {
         Ok(seen) => stop_in(alloc, disk, root, epoch, joining, at, seen),
         // The bytes before the offset are an epoch.
         Err(WalkRefusal::Damaged { at: _ }) => OpenRefusal::Damaged { file, at },
@@ -248,7 +246,7 @@ fn join_epoch<D: Disk>(
         return Ok(joining);
     }
     let file = named_file(root, epoch);
-    match epoch_file::walk(alloc, disk, file, length, Form::Sha1) {
+    match epoch_file::walk(alloc, disk, file, length, root.config.form) {
         Ok(seen) => take(alloc, disk, root, epoch, joining, seen),
         Err(WalkRefusal::Damaged { at }) => Err(stop_at(alloc, disk, root, epoch, joining, at)),
         Err(WalkRefusal::DiskFault) => Err(OpenRefusal::DiskFault),
@@ -308,7 +306,7 @@ fn read_epochs<D: Disk>(
     root: &Root,
     records: &Records,
 ) -> Result<IndexedEntries, OpenRefusal>
-    requires valid { AreRecordsFrom form.Sha1 1 records.now }
+    requires valid { AreRecordsFrom root.now.config.form 1 records.now }
     ensures kept { WhereTold (λ k.
         KeepsBy root.now records.now result (as_read k)) (D.content disk.old) }
     ensures small { IfOk result (λ kept. AreBefore epoch_count kept) }

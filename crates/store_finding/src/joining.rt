@@ -2,7 +2,7 @@
 //! Reads the disk.
 ghost use Rattle.std.specs.Prelude.{◌≡◌, ◌≢◌, ◌+◌, ◌<◌, ◌≤◌, ℕ, List, [], true, Err, IfOk, IfErr, OnOk};
 ghost use Rattle.arch_base.specs.Counts.{Rose};
-ghost use Rattle.arch_base.specs.declared.ids.Form.TheVariants as form;
+ghost use Rattle.arch_base.specs.declared.ids.Form.{Form};
 ghost use Rattle.disk_model.specs.Disk.{WhereTold, bytes_of};
 ghost use Rattle.disk_model.specs.Sizes.{epoch_count, greatest_epoch};
 ghost use Rattle.store_finding.specs.Damage.{messages, named_length};
@@ -75,7 +75,7 @@ fn with_message(alloc: Global, records: &[Record]) -> Result<Vec<Record>, AllocE
 impl Joining {
     /// Starts with the records of a map, and no entry yet.
     pub(crate) fn new(alloc: Global, records: &Records) -> Result<Joining, NoMemory>
-        requires valid { AreRecordsFrom form.Sha1 1 records.now }
+        requires valid { (form : Form) × AreRecordsFrom form 1 records.now }
         ensures records { IfOk result (λ joining. joining.records ≡ messages records.now) }
         ensures entries { IfOk result (λ joining. joining.entries ≡ []) }
     {
@@ -124,7 +124,7 @@ impl Joining {
     /// It has the deletion's own id and its blob id.
     fn ended(&self, seen: &Seen) -> Option<u32>
         requires { seen.now.kind ≡ Deletion }
-        ensures { OfJoined self.now (λ all. EndedBy all seen.now result) }
+        ensures { OfJoined self.now (λ form all. EndedBy form all seen.now result) }
     {
         let Some(owner) = self.index.owner(seen.id.as_slice()) else {
             return None;

@@ -19,5 +19,5 @@ pub returns-in-Err-Damaged-clause-stops : goal.returns-in-Err-Damaged-clause-sto
 returns-in-Err-Damaged-clause-stops g c =
     let root = c.args.root.now in
     where_so _ _ (g.D.Disk.content c.args.disk.now) (rw c.named_file-file.ensures at (rw c.in-Err-Damaged.field-0-is at c.in-Err-Damaged.ensures.walked))
-    (λ k again rs fits some up damaged. absurd (left_undamaged c.law_of_entries.ensures (named_length root c.args.epoch) c.args.at c.in-Err-Damaged.field-0-0 (bytes_of (as_read k (epoch_file_of root c.args.epoch))) (short root c.args.epoch fits c.requires.small)
+    (λ k again rs fits some up damaged. absurd (left_undamaged root.config.form c.law_of_entries.ensures (named_length root c.args.epoch) c.args.at c.in-Err-Damaged.field-0-0 (bytes_of (as_read k (epoch_file_of root c.args.epoch))) (short root c.args.epoch fits c.requires.small)
     (let high = c.if-at-le8.false in omega (arith, high)) damaged again))

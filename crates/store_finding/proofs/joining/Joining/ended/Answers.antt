@@ -1,5 +1,6 @@
 -- The message of a live id is found, and its blob id compared.
 use Rattle.std.proofs.Common.{◌≡◌, List, Some, None, rules, sym, subst}
+use Rattle.arch_base.specs.declared.ids.Form.{Form}
 use Rattle.arch_model.specs.Archives.{Entry}
 use Rattle.arch_judge.specs.Indexes.{owner_in}
 use Rattle.number_map.specs.declared.line.Record.{Record}
@@ -19,7 +20,7 @@ returns-then-ne c =
     let s = c.message-message.result.now in
     let found : owner_in c.self.inside.index.owners seen.id ≡ Some c.in-Some.owner = search rules in
     let of = subst (λ (w : JoinedEntries). IsMessageOf w.entries c.in-Some.owner.number s) (sym c.self.view_is) c.message-message.ensures.of in
-    subst (λ (w : JoinedEntries). OfJoined w (λ (all : List Entry). EndedBy all seen None)) c.self.view_is
+    subst (λ (w : JoinedEntries). OfJoined w (λ (form : Form) (all : List Entry). EndedBy form all seen None)) c.self.view_is
     (ends_other v c.self.inside.index seen c.in-Some.owner s c.self.invariant.0 found of (blobs_differ s.seen.blob seen.blob c.ne.result c.ne.ensures c.if-ne.true))
 
 pub returns : goal.returns
@@ -29,5 +30,5 @@ returns c =
     let s = c.message-message.result.now in
     let found : owner_in c.self.inside.index.owners seen.id ≡ Some c.in-Some.owner = search rules in
     let of = subst (λ (w : JoinedEntries). IsMessageOf w.entries c.in-Some.owner.number s) (sym c.self.view_is) c.message-message.ensures.of in
-    subst (λ (w : JoinedEntries). OfJoined w (λ (all : List Entry). EndedBy all seen (Some c.in-Some.owner.number))) c.self.view_is
+    subst (λ (w : JoinedEntries). OfJoined w (λ (form : Form) (all : List Entry). EndedBy form all seen (Some c.in-Some.owner.number))) c.self.view_is
     (ends_one v c.self.inside.index seen c.in-Some.owner s c.self.invariant.0 found of c.requires (blobs_same s.seen.blob seen.blob c.ne.result c.ne.ensures c.if-ne.false))

@@ -20,5 +20,5 @@ invariant_of-result c =
       subst (λ (es : List StoredEntry). IndexesStored es index) (sym none) (indexes_none index c.new-3.ensures.owners c.new-3.ensures.blobs),
       λ i r here. messages_small rs i r (ap (λ (l : List Record). slice_get l i) (sym is) ∙ here),
       ap length c.new-2.ensures.items ∙ ap message_count (sym none),
-      joining_none rs records c.new.result.items c.new-2.result.items index is c.requires.valid c.new-2.ensures.items c.new-3.ensures.owners c.new-3.ensures.blobs,
+      joining_none c.requires.valid.0 rs records c.new.result.items c.new-2.result.items index is c.requires.valid.1 c.new-2.ensures.items c.new-3.ensures.owners c.new-3.ensures.blobs,
     )

@@ -9,8 +9,8 @@ with_entry-requires c = λ message. absurd (let wrong : Message ≡ Deletion = s
 pub returns-in-None : goal.returns-in-None
 returns-in-None c = (
   refl,
-  λ rs after all holds number joins. elim joins.1 [
+  λ form rs after all holds number joins. elim joins.1 [
     | inl message ↦ absurd (let wrong : Message ≡ Deletion = sym message.wanted.message ∙ c.requires in cc)
-    | inr deletion ↦ c.in-None.ensures rs after all holds number deletion
+    | inr deletion ↦ c.in-None.ensures form rs after all holds number deletion
   ],
 )
