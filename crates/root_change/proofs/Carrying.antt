@@ -3,6 +3,7 @@ use Rattle.std.specs.Prelude.{◌≡◌, ℕ, ◌-◌, ◌<◌, List, Option, So
 use Rattle.std.specs.Result.{IsErrAnd}
 use Rattle.std.proofs.Common.{◌∙◌, sym, ap, subst, inl, inr, arith}
 use Rattle.arch_base.specs.Counts.{Rose, HasCause, RoseIf}
+use Rattle.arch_base.specs.declared.ids.Form.{Form}
 use Rattle.disk_model.specs.declared.disk.Disk.{Ghosts as Disk}
 use Rattle.disk_model.specs.Disk.{Content, File, BothTold, WhereTold, bytes_of}
 use Rattle.disk_model.specs.Beside.{RunsBeside}
@@ -63,9 +64,9 @@ pub not_short : (k : Option Content) → WhereTold (λ (c : Content). ⊥ → �
 not_short None = tt
 not_short (Some k) = λ short. short
 
-module _ {D : Type 0} (g : Disk D) (disk d : D) (old : Root) (free : ℕ) (plans : List Plan) (number : ℕ) (new : Root) (after : IsRootAfter old plans number new) where
-  failed_now : (refusal : RewriteRefusal) → ((parts : Parts) → IsOwnOfParts old free parts (g.content disk) → LeavesOnly g disk d (RecoversPlanned old plans number parts)) → RunsBeside g (bounds_of old) disk d → WhereTold (λ (c : Content). IsShort {T = Root} (Err refusal) → ⊥) (g.content disk)
-      → IfShort {T = Root} (Err refusal) (IsPlannedPart old plans) → RoseIf (IsFailed {T = Root} (Err refusal)) (g.faults disk) (g.faults d) → CarriesOut g disk d old free plans number (Err refusal)
+module _ {D : Type 0} (g : Disk D) (disk d : D) (old : Root) (free : ℕ) (plans : List Plan) (number : ℕ) (form : Form) (new : Root) (after : IsRootAfter old plans number form new) where
+  failed_now : (refusal : RewriteRefusal) → ((parts : Parts) → IsOwnOfParts old free parts (g.content disk) → LeavesOnly g disk d (RecoversPlanned old plans number form parts)) → RunsBeside g (bounds_of old) disk d → WhereTold (λ (c : Content). IsShort {T = Root} (Err refusal) → ⊥) (g.content disk)
+      → IfShort {T = Root} (Err refusal) (IsPlannedPart old plans) → RoseIf (IsFailed {T = Root} (Err refusal)) (g.faults disk) (g.faults d) → CarriesOut g disk d old free plans number form (Err refusal)
   failed_now refusal leaves run whole told rose = record {
     crash = leaves;
     done = λ parts own. tt;
@@ -83,19 +84,19 @@ module _ {D : Type 0} (g : Disk D) (disk d : D) (old : Root) (free : ℕ) (plans
 
   -- The plans weren't carried out: what a crash leaves stands for the old parts.
   pub writing_failed : (result : Result Root RewriteRefusal) (refusal : RewriteRefusal) → IsErrAnd result (λ r. r ≡ refusal) → RunsBeside g (bounds_of old) disk d → WhereTold (λ (c : Content). IsShort {T = Unit {0}} (Err refusal) → ⊥) (g.content disk) → IfShort {T = Unit {0}} (Err refusal) (IsPlannedPart old plans) → RoseIf (IsFailed {T = Unit {0}} (Err refusal)) (g.faults disk) (g.faults d)
-      → CarriesOut g disk d old free plans number result
+      → CarriesOut g disk d old free plans number form result
   writing_failed (Ok made) refusal is run whole told rose = absurd is
   writing_failed (Err r) refusal is run whole told rose =
-      subst (λ (x : RewriteRefusal). CarriesOut g disk d old free plans number (Err x)) (sym is)
+      subst (λ (x : RewriteRefusal). CarriesOut g disk d old free plans number form (Err x)) (sym is)
       (failed_now refusal
-      (λ parts own. weaker g disk d (RecoversPartsBy old parts) (RecoversPlanned old plans number parts) (writing_by free old new parts (rewritten old plans parts) g disk d own run) (λ image stands. inl stands))
+      (λ parts own. weaker g disk d (RecoversPartsBy old parts) (RecoversPlanned old plans number form parts) (writing_by free old new parts (rewritten old plans parts) g disk d own run) (λ image stands. inl stands))
       run (whole_as refusal (g.content disk) whole) (short_handed {T = Root} (IsPlannedPart old plans) (IsPlannedPart old plans) (Err refusal) refusal (λ file at part. part) refl told) (rose_as refusal (g.faults disk) (g.faults d) rose))
 
   -- The disk failed while the root was replaced.
-  pub replacing_failed : (result : Result Root RewriteRefusal) → IsErrAnd result (λ r. r ≡ DiskFault) → ((parts : Parts) → IsOwnOfParts old free parts (g.content disk) → LeavesOnly g disk d (RecoversPlanned old plans number parts)) → RoseIf (Unit {0}) (g.faults disk) (g.faults d) → RunsOneRoot g free (Some (spelling new)) disk d
-      → CarriesOut g disk d old free plans number result
+  pub replacing_failed : (result : Result Root RewriteRefusal) → IsErrAnd result (λ r. r ≡ DiskFault) → ((parts : Parts) → IsOwnOfParts old free parts (g.content disk) → LeavesOnly g disk d (RecoversPlanned old plans number form parts)) → RoseIf (Unit {0}) (g.faults disk) (g.faults d) → RunsOneRoot g free (Some (spelling new)) disk d
+      → CarriesOut g disk d old free plans number form result
   replacing_failed (Ok made) is leaves rose run = absurd is
-  replacing_failed (Err r) is leaves rose run = subst (λ (x : RewriteRefusal). CarriesOut g disk d old free plans number (Err x)) (sym is) (record {
+  replacing_failed (Err r) is leaves rose run = subst (λ (x : RewriteRefusal). CarriesOut g disk d old free plans number form (Err x)) (sym is) (record {
     crash = leaves;
     done = λ parts own. tt;
     whole = not_short (g.content disk);
@@ -123,20 +124,20 @@ planned_rooted old new plans free body k m o may wrote rooted =
     wrote rooted
 
 -- Plans were carried out, and the root is replaced.
-module _ (old new : Root) (plans : List Plan) (number : ℕ) (valid : IsRoot old) (fits : RootFits old) (may : MayCarryAll old plans) (after : IsRootAfter old plans number new) (new_valid : IsRoot new) (new_fits : RootFits new) (free : ℕ) {D : Type 0} (g : Disk D) (disk d1 d2 : D) (run : RunsBeside g (bounds_of old) disk d1) (wrote : BothTold (WritesPlans old new plans) (g.content disk) (g.content d1)) (parts : Parts) (own : IsOwnOfParts old free parts (g.content disk)) where
+module _ (old new : Root) (plans : List Plan) (number : ℕ) (form : Form) (valid : IsRoot old) (fits : RootFits old) (may : MayCarryAll old plans) (after : IsRootAfter old plans number form new) (new_valid : IsRoot new) (new_fits : RootFits new) (free : ℕ) {D : Type 0} (g : Disk D) (disk d1 d2 : D) (run : RunsBeside g (bounds_of old) disk d1) (wrote : BothTold (WritesPlans old new plans) (g.content disk) (g.content d1)) (parts : Parts) (own : IsOwnOfParts old free parts (g.content disk)) where
   abbrev next : Parts
   next = rewritten old plans parts
 
   -- What a crash leaves.
-  pub planned_leaves : ((texts nexts : Texts) → ToReplace free old texts new nexts (g.content d1) → LeavesOnly g d1 d2 (StandsForEither old texts new nexts)) → LeavesOnly g disk d2 (RecoversPlanned old plans number parts)
+  pub planned_leaves : ((texts nexts : Texts) → ToReplace free old texts new nexts (g.content d1) → LeavesOnly g d1 d2 (StandsForEither old texts new nexts)) → LeavesOnly g disk d2 (RecoversPlanned old plans number form parts)
   planned_leaves replaces =
       let k = g.content disk in
       let m = g.content d1 in
-      let reads = reads_told old new plans number valid fits may after parts own.long free k m own.on wrote in
-      let becomes = becomes_told old new plans number valid fits may after parts own.long free k m own.on wrote in
-      let long = fit_told old new plans number valid fits may after parts own.long free k m own.on wrote in
-      weaker g disk d2 _ (RecoversPlanned old plans number parts)
-      (changing_by free old new parts next g disk d1 own run (reading old new plans number valid fits may after parts own.long m) reads becomes new_valid new_fits long d2 replaces)
+      let reads = reads_told old new plans number form valid fits may after parts own.long free k m own.on wrote in
+      let becomes = becomes_told old new plans number form valid fits may after parts own.long free k m own.on wrote in
+      let long = fit_told old new plans number form valid fits may after parts own.long free k m own.on wrote in
+      weaker g disk d2 _ (RecoversPlanned old plans number form parts)
+      (changing_by free old new parts next g disk d1 own run (reading old new plans number form valid fits may after parts own.long m) reads becomes new_valid new_fits long d2 replaces)
       (λ image either. elim either [ inl stands ↦ inl stands | inr stands ↦ inr (new, after, stands) ])
 
   -- What the disk is then.
@@ -144,9 +145,9 @@ module _ (old new : Root) (plans : List Plan) (number : ℕ) (valid : IsRoot old
   planned_done done =
       let k = g.content disk in
       let m = g.content d1 in
-      let so_far = reading old new plans number valid fits may after parts own.long m in
-      let reads = reads_told old new plans number valid fits may after parts own.long free k m own.on wrote in
-      let becomes = becomes_told old new plans number valid fits may after parts own.long free k m own.on wrote in
-      let long = fit_told old new plans number valid fits may after parts own.long free k m own.on wrote in
+      let so_far = reading old new plans number form valid fits may after parts own.long m in
+      let reads = reads_told old new plans number form valid fits may after parts own.long free k m own.on wrote in
+      let becomes = becomes_told old new plans number form valid fits may after parts own.long free k m own.on wrote in
+      let long = fit_told old new plans number form valid fits may after parts own.long free k m own.on wrote in
       changed free old new parts next g disk d1 own run so_far reads becomes new_valid new_fits long d2
       (done (texts_of old parts) (texts_of new next) (to_replace free old new parts next g disk d1 own run so_far reads becomes new_valid new_fits long))

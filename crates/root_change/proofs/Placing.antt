@@ -1,11 +1,15 @@
 -- The root after plans, which is made by one plan after the other.
-use Rattle.std.specs.Prelude.{◌≡◌, ◌≢◌, ℕ, ◌+◌, ◌<◌, ◌≤◌, ◌^◌, ◌==◌, Bool, if◌then◌else◌, List, [], ◌∷◌, ◌++◌, length, take, get_or, slice_get, Option, Some, None, refl}
+use Rattle.std.specs.Prelude.{◌≡◌, ◌≢◌, ℕ, ◌+◌, ◌-◌, ◌*◌, ◌<◌, ◌≤◌, ◌^◌, ◌==◌, Bool, if◌then◌else◌, List, [], ◌∷◌, ◌++◌, length, take, get_or, slice_get, Option, Some, None, refl}
 use Rattle.std.proofs.Common.{◌∙◌, sym, ap, subst, inl, inr, arith}
 use Rattle.std.proofs.lemmas.Bool.{cases_lt}
 use Rattle.std.proofs.lemmas.List.Elements.{All-from_get_or}
-use Rattle.arch_base.specs.Configs.{IsConfig}
+use Rattle.arch_base.specs.declared.config.Config.{Config}
+use Rattle.arch_base.specs.declared.ids.Form.{Form}
+use Rattle.arch_base.specs.declared.ids.Form.TheVariants.{Sha1, Sha256}
+use Rattle.arch_base.specs.Configs.{IsConfig, with_form}
 use Rattle.disk_model.specs.declared.name.FileKind.{FileKind}
 use Rattle.disk_model.specs.declared.name.FileKind.TheVariants as kind
+use Rattle.disk_model.specs.Sizes.{record_size}
 use Rattle.root_slots.specs.declared.root.Place.{Place}
 use Rattle.root_slots.specs.declared.root.Root.{Root}
 use Rattle.root_slots.specs.Valid.{IsRoot, RootFits, PlaceIsValid, no_place}
@@ -23,12 +27,12 @@ use Rattle.root_change.proofs.Roots.{later_place, less_test, least_test}
 pub map_number : (k : FileKind) (n : ℕ) → k ≡ kind.Map → IsPartToPlan k n → n ≡ 0
 map_number k n is part = subst (λ (j : FileKind). IsPartToPlan j n) is part
 
-module _ (old : Root) (number : ℕ) where
+module _ (old : Root) (number : ℕ) (form : Form) where
   abbrev next_ : ℕ
   next_ = old.sequence + 1
 
   -- The `Place` of a part without a plan stays.
-  pub place_stays : (plans : List Plan) (new : Root) (k : FileKind) (n : ℕ) → IsRootAfter old plans number new → IsPartToPlan k n → plan_of plans k n ≡ None → place_of new k n ≡ place_of old k n
+  pub place_stays : (plans : List Plan) (new : Root) (k : FileKind) (n : ℕ) → IsRootAfter old plans number form new → IsPartToPlan k n → plan_of plans k n ≡ None → place_of new k n ≡ place_of old k n
   place_stays plans new kind.Root n after part none = absurd part
   place_stays plans new kind.Map n after part none =
       let at_0 : plan_of plans kind.Map 0 ≡ None = subst (λ (m : ℕ). plan_of plans kind.Map m ≡ None) part none in
@@ -37,9 +41,9 @@ module _ (old : Root) (number : ℕ) where
   place_stays plans new kind.Cache n after part none = absurd part
 
   -- Before the first plan.
-  pub start_after : (new : Root) → new ≡ old → length old.epochs ≡ 64 → IsRootAfter old [] number (record { config = new.config; sequence = old.sequence + 1; next = number; map = new.map; epochs = new.epochs; cache = no_place })
+  pub start_after : (new : Root) → new ≡ old → length old.epochs ≡ 64 → IsRootAfter old [] number form (record { config = with_form form new.config; sequence = old.sequence + 1; next = number; map = new.map; epochs = new.epochs; cache = no_place })
   start_after new same count = record {
-    config = ap (λ (r : Root). r.config) same;
+    config = ap (λ (r : Root). with_form form r.config) same;
     sequence = refl;
     next = refl;
     map = ap (λ (r : Root). r.map) same;
@@ -49,7 +53,7 @@ module _ (old : Root) (number : ℕ) where
   }
 
   -- One more plan, of a part that had none.
-  set_after : (plans : List Plan) (plan : Plan) (new set : Root) → IsPartToPlan plan.kind plan.number → plan_of plans plan.kind plan.number ≡ None → IsRootAfter old plans number new → SetsPlace new plan (old.sequence + 1) set → IsRootAfter old (plans ++ plan ∷ []) number set
+  set_after : (plans : List Plan) (plan : Plan) (new set : Root) → IsPartToPlan plan.kind plan.number → plan_of plans plan.kind plan.number ≡ None → IsRootAfter old plans number form new → SetsPlace new plan (old.sequence + 1) set → IsRootAfter old (plans ++ plan ∷ []) number form set
   set_after plans plan new set part none after sets = record {
     config = sets.config ∙ after.config;
     sequence = sets.sequence ∙ after.sequence;
@@ -81,10 +85,10 @@ module _ (old : Root) (number : ℕ) where
     none_at : (k : FileKind) (n : ℕ) → plan.kind ≡ k → plan.number ≡ n → plan_of plans k n ≡ None
     none_at k n kind_is number_is = subst (λ (m : ℕ). plan_of plans k m ≡ None) number_is (subst (λ (j : FileKind). plan_of plans j plan.number ≡ None) kind_is none)
 
-  module _ (plans : List Plan) (may : MayCarryAll old plans) (i : ℕ) (plan : Plan) (here : slice_get plans i ≡ Some plan) (new : Root) (after : IsRootAfter old (take i plans) number new) where
+  module _ (plans : List Plan) (may : MayCarryAll old plans) (i : ℕ) (plan : Plan) (here : slice_get plans i ≡ Some plan) (new : Root) (after : IsRootAfter old (take i plans) number form new) where
     -- The next plan of several.
-    pub next_after : (set : Root) → SetsPlace new plan (old.sequence + 1) set → IsRootAfter old (take (i + 1) plans) number set
-    next_after set sets = subst (λ (ps : List Plan). IsRootAfter old ps number set) (sym (one_more plans i plan here)) (set_after (take i plans) plan new set (may.each i plan here).part (none_before plans i plan may.apart here) after sets)
+    pub next_after : (set : Root) → SetsPlace new plan (old.sequence + 1) set → IsRootAfter old (take (i + 1) plans) number form set
+    next_after set sets = subst (λ (ps : List Plan). IsRootAfter old ps number form set) (sym (one_more plans i plan here)) (set_after (take i plans) plan new set (may.each i plan here).part (none_before plans i plan may.apart here) after sets)
 
     -- The part of the next plan has the `Place` that it had.
     pub next_room : plan.target ≡ Behind → (place_of new plan.kind plan.number).length + plan_count plan < 2 ^ 64
@@ -131,9 +135,29 @@ map_gen_planned : (sequence : ℕ) (plan : Option Plan) (place : Place) → plac
 map_gen_planned sequence None place old = omega (arith, old)
 map_gen_planned sequence (Some plan) place old = map_gen sequence plan.target place (plan_count plan) old
 
+-- Settings with another form are as valid.
+config_with_form : (form : Form) (config : Config) → IsConfig config → IsConfig (with_form form config)
+config_with_form form config valid = record {
+  limit_low = valid.limit_low;
+  limit_high = valid.limit_high;
+  slice_low = valid.slice_low;
+  slice_high = valid.slice_high;
+  max_low = valid.max_low;
+  max_high = valid.max_high;
+  born_low = valid.born_low;
+  born_high = valid.born_high;
+}
+
+-- A map of records of the form has one for each number below the next one.
+map_sized : (form last : Form) (length_ long number next : ℕ) → form ≡ last → length_ ≡ long → long + record_size form ≡ record_size form * number → next ≡ number → 1 ≤ number → length_ ≡ record_size last * (next - 1)
+map_sized form last length_ long number next same length_is fits next_is least = subst (λ (f : Form). length_ ≡ record_size f * (next - 1)) same (by form fits) where
+  by : (f : Form) → long + record_size f ≡ record_size f * number → length_ ≡ record_size f * (next - 1)
+  by Sha1 has = omega (arith, length_is, has, next_is, least)
+  by Sha256 has = omega (arith, length_is, has, next_is, least)
+
 -- The root after plans is valid.
-pub after_is_root : (old : Root) (plans : List Plan) (number : ℕ) (new : Root) → IsRoot old → RootFits old → 1 ≤ number → number ≤ 2147483648 → MapFits old plans number → IsRootAfter old plans number new → IsRoot new
-after_is_root old plans number new valid fits least most map_fits after =
+pub after_is_root : (old : Root) (plans : List Plan) (number : ℕ) (form : Form) (new : Root) → IsRoot old → RootFits old → 1 ≤ number → number ≤ 2147483648 → MapFits old plans number form → IsRootAfter old plans number form new → IsRoot new
+after_is_root old plans number form new valid fits least most map_fits after =
     let next_is = after.next in
     let sequence_is = after.sequence in
     let gen_is = ap (λ (p : Place). p.generation) after.map in
@@ -142,11 +166,11 @@ after_is_root old plans number new valid fits least most map_fits after =
     let size = after.count in
     let was = fits.count in
     record {
-      config = subst IsConfig (sym after.config) valid.config;
+      config = subst IsConfig (sym after.config) (config_with_form form old.config valid.config);
       next_least = omega (arith, next_is, least);
       next_most = omega (arith, next_is, most);
       map_gen = omega (arith, gen_is, gen_most, sequence_is);
-      map_length = omega (arith, length_is, map_fits, next_is, least);
+      map_length = map_sized form new.config.form new.map.length (map_planned (old.sequence + 1) (plan_of plans kind.Map 0) old.map).length number new.next (sym (ap (λ (c : Config). c.form) after.config)) length_is map_fits next_is least;
       epochs = All-from_get_or (PlaceIsValid new.sequence) new.epochs no_place (λ e below.
           let low : e < 64 = omega (arith, size, below) in
           subst (λ (s : ℕ). PlaceIsValid s (get_or new.epochs e no_place)) (sym sequence_is)

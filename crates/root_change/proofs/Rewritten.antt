@@ -4,6 +4,7 @@ use Rattle.std.proofs.Common.{◌∙◌, sym, ap, subst, inl, inr, arith, length
 use Rattle.std.proofs.lemmas.Bool.{cases_lt}
 use Rattle.std.proofs.lemmas.List.{get_or_past, nil_from_length}
 use Rattle.std.proofs.lemmas.Option.{same_Some}
+use Rattle.arch_base.specs.declared.ids.Form.{Form}
 use Rattle.disk_model.specs.declared.name.FileKind.{FileKind}
 use Rattle.disk_model.specs.declared.name.FileKind.TheVariants as kind
 use Rattle.disk_model.specs.declared.name.FileName.{FileName}
@@ -57,7 +58,7 @@ first_bytes Behind before written none = ap (λ (l : List ℕ). l ++ written) (n
 more_bytes : (target : Target) (before written : List ℕ) → target ≡ Behind → bytes_by target before written ≡ before ++ written
 more_bytes target before written is = ap (λ (t : Target). bytes_by t before written) is
 
-module _ (old new : Root) (plans : List Plan) (number : ℕ) (valid : IsRoot old) (fits : RootFits old) (may : MayCarryAll old plans) (after : IsRootAfter old plans number new) where
+module _ (old new : Root) (plans : List Plan) (number : ℕ) (form : Form) (valid : IsRoot old) (fits : RootFits old) (may : MayCarryAll old plans) (after : IsRootAfter old plans number form new) where
   abbrev next_ : ℕ
   next_ = old.sequence + 1
 

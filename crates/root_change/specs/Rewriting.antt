@@ -1,7 +1,8 @@
 -- Parts of an archive that a command writes anew or appends to, from bytes and ranges of the old files.
 use Rattle.std.specs.Prelude.{◌≡◌, ◌⊎◌, ◌+◌, ◌-◌, ◌*◌, ◌<◌, ◌≤◌, ◌^◌, ◌==◌, ◌&&◌, nat_lt, ℕ, Bool, true, false, List, [], ◌∷◌, ◌++◌, length, get_or, slice_get, Option, Some, None, Result, Err, IfOk, OnOk, if◌then◌else◌}
 use Rattle.std.specs.List.{flat_map, sum_by}
-use Rattle.arch_base.specs.declared.ids.Form.TheVariants as form
+use Rattle.arch_base.specs.declared.ids.Form.{Form}
+use Rattle.arch_base.specs.Configs.{with_form}
 use Rattle.arch_base.specs.Counts.{RoseIf}
 use Rattle.disk_model.specs.declared.disk.Disk.{Ghosts as Disk}
 use Rattle.disk_model.specs.declared.name.FileKind.{FileKind}
@@ -183,9 +184,10 @@ abbrev pub map_planned : ℕ → Option Plan → Place → Place
 map_planned next None place = place
 map_planned next (Some plan) place = map_by next plan.target place (plan_count plan)
 
--- The root after plans, with this next number. It has the next sequence, and no cache.
-pub record IsRootAfter (old : Root) (plans : List Plan) (number : ℕ) (new : Root) : Type 0 where
-  pub config : new.config ≡ old.config
+-- The root after plans, with this next number and objects of this form. It has the next sequence, and no
+-- cache.
+pub record IsRootAfter (old : Root) (plans : List Plan) (number : ℕ) (form : Form) (new : Root) : Type 0 where
+  pub config : new.config ≡ with_form form old.config
   pub sequence : new.sequence ≡ old.sequence + 1
   pub next : new.next ≡ number
   pub map : new.map ≡ map_planned (old.sequence + 1) (plan_of plans kind.Map 0) old.map
@@ -233,11 +235,11 @@ pub record MayCarryAll (root : Root) (plans : List Plan) : Type 0 where
   pub each : (i : ℕ) (plan : Plan) → slice_get plans i ≡ Some plan → MayCarry root plan
   pub apart : AreApart plans
 
--- The map has a record for each number below the next one, after its plan.
-abbrev pub MapFits : Root → List Plan → ℕ → Type 0
-MapFits old plans number =
+-- The map has a record of this form for each number below the next one, after its plan.
+abbrev pub MapFits : Root → List Plan → ℕ → Form → Type 0
+MapFits old plans number form =
     (map_planned (old.sequence + 1) (plan_of plans kind.Map 0) old.map).length
-    + record_size form.Sha1 ≡ record_size form.Sha1 * number
+    + record_size form ≡ record_size form * number
 
 -- A range wasn't whole.
 abbrev pub IsShort : {T : Type 0} → Result T RewriteRefusal → Type 0
@@ -267,9 +269,9 @@ IsFailed (Err DiskFault) = Unit {0}
 IsFailed _ = ⊥
 
 -- Files stand for parts by the old root, or for those after plans by the root after them.
-abbrev pub RecoversPlanned : Root → List Plan → ℕ → Parts → Files → Type 0
-RecoversPlanned root plans number parts image = RecoversPartsBy root parts image
-    ⊎ ((made : Root) × IsRootAfter root plans number made
+abbrev pub RecoversPlanned : Root → List Plan → ℕ → Form → Parts → Files → Type 0
+RecoversPlanned root plans number form parts image = RecoversPartsBy root parts image
+    ⊎ ((made : Root) × IsRootAfter root plans number form made
     × RecoversPartsBy made (rewritten root plans parts) image)
 
 -- What carrying out plans promises. At each moment a crash leaves files that stand for the old parts
@@ -279,15 +281,15 @@ RecoversPlanned root plans number parts image = RecoversPartsBy root parts image
 -- tells its content is never found short. On any other the file of a planned part may be: that is told
 -- with the number of bytes that count there, and all that the old root names stays.
 pub record CarriesOut {D : Type 0} (g : Disk D) (old new : D) (root : Root) (free : ℕ)
-    (plans : List Plan) (number : ℕ) (result : Result Root RewriteRefusal) : Type 0 where
+    (plans : List Plan) (number : ℕ) (form : Form) (result : Result Root RewriteRefusal) : Type 0 where
   pub crash : (parts : Parts) → IsOwnOfParts root free parts (g.content old)
-      → LeavesOnly g old new (RecoversPlanned root plans number parts)
+      → LeavesOnly g old new (RecoversPlanned root plans number form parts)
   pub done : (parts : Parts) → IsOwnOfParts root free parts (g.content old)
       → IfOk result (λ made. IsOwnOfParts made (1 - free) (rewritten root plans parts) (g.content new))
   pub whole : WhereTold (λ (k : Content). IsShort result → ⊥) (g.content old)
   pub short : IfShort result (IsPlannedPart root plans)
   pub settled : OnOk result (WhereTold IsSettled (g.content new))
-  pub root_is : IfOk result (λ made. IsRootAfter root plans number made)
+  pub root_is : IfOk result (λ made. IsRootAfter root plans number form made)
   pub valid : IfOk result (λ made. IsRoot made)
   pub sizes : IfOk result (λ made. WhereTold (HasSizes made) (g.content new))
   pub cause : RoseIf (IsFailed result) (g.faults old) (g.faults new)
@@ -296,6 +298,6 @@ pub record CarriesOut {D : Type 0} (g : Disk D) (old new : D) (root : Root) (fre
       (g.content new))
   -- At each moment, also after a fault, at most that slot is written, and no root comes into it but the
   -- one after the plans.
-  pub crash_root : (made : Root) × IsRootAfter root plans number made
+  pub crash_root : (made : Root) × IsRootAfter root plans number form made
       × RunsOneRoot g free (Some (spelling made)) old new
   pub crash_beside : IsShort result → RunsBeside g (bounds_of root) old new

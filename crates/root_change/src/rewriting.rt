@@ -18,6 +18,7 @@ use crate::names::place_at;
 use crate::plan::{PartPlan, Target};
 use crate::replacing::replace_root;
 use crate::sources::put_sources;
+use arch_base::Form;
 use disk_model::{Disk, DiskFault, FileKind, FileName};
 use root_slots::{Place, Root, Slot, root_fits};
 use thiserror::Error;
@@ -107,19 +108,20 @@ fn set_place(root: &mut Root, plan: &PartPlan, next: u64)
     }
 }
 
-/// Returns the root after plans, with this next number.
-fn root_after(old: &Root, plans: &[PartPlan], number: u32) -> Root
+/// Returns the root after plans, with this next number and objects of this form.
+fn root_after(old: &Root, plans: &[PartPlan], number: u32, form: Form) -> Root
     requires root { IsRoot old.now }
     requires later { old.now.sequence + 1 < 2 ^ 64 }
     requires plans { MayCarryAll old.now plans.now }
     requires number { (1 ≤ number) × (number ≤ 2147483648) }
-    requires map { MapFits old.now plans.now number }
-    ensures root { IsRootAfter old.now plans.now number result }
+    requires map { MapFits old.now plans.now number form }
+    ensures root { IsRootAfter old.now plans.now number form result }
     ensures valid { IsRoot result }
 {
     root_fits(old);
     let next = old.sequence + 1;
     let mut new = old.copy();
+    new.config.form = form;
     new.sequence = next;
     new.next = number;
     new.cache = Place {
@@ -210,7 +212,7 @@ fn write_plans<D: Disk>(
 }
 
 /// Carries out plans of parts of an archive, and replaces the root by the one that names what they
-/// wrote, with this next number and without a cache.
+/// wrote, with this next number, objects of this form and without a cache.
 ///
 /// After `Ok` the files that only the old root names are gone. Returns the new root. Allocates
 /// nothing.
@@ -225,19 +227,20 @@ pub fn rewrite<D: Disk>(
     old: &Root,
     plans: &[PartPlan],
     number: u32,
+    form: Form,
 ) -> Result<Root, RewriteRefusal>
     requires root { IsRoot old.now }
     requires later { old.now.sequence + 1 < 2 ^ 64 }
     requires plans { MayCarryAll old.now plans.now }
     requires number { (1 ≤ number) × (number ≤ 2147483648) }
-    requires map { MapFits old.now plans.now number }
+    requires map { MapFits old.now plans.now number form }
     requires sizes { WhereTold (HasPartSizes old.now) (D.content disk.old) }
     ensures carried { CarriesOut D.Disk disk.old disk.new old.now
-        (slot_number slot) plans.now number result }
+        (slot_number slot) plans.now number form result }
     ensures fewest { D.reads disk.old ≤ D.reads disk.new }
 {
     root_fits(old);
-    let new = root_after(old, plans, number);
+    let new = root_after(old, plans, number, form);
     root_fits(&new);
     write_plans(disk, old, &new, plans)?;
     replace_root(disk, slot, old, &new)?;

@@ -5,5 +5,5 @@ use Rattle.root_change.proofs.rewriting.root_after.Given as goal
 
 abbrev pub invariant-loop-plan : goal.invariant-loop-plan
 invariant-loop-plan l = record {
-  after : IsRootAfter l.old (take l.plan-index l.plans) l.number l.new;
+  after : IsRootAfter l.old (take l.plan-index l.plans) l.number l.fn.form l.new;
 }
