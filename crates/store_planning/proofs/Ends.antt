@@ -54,21 +54,21 @@ of_some : {X : Type 0} {x y : X} → Some x ≡ Some y → x ≡ y
 of_some {X} {x} {y} is = ap (λ (o : Option X). unwrap_or o x) is
 
 -- The end of an archive without entries.
-pub end_none : (kept : List StoredEntry) (a : Archive) → kept ≡ stored_after [] a.entries → kept ≡ [] → IsStoreEnd a (record { epoch = 0; parent = None })
-end_none kept a is none = let empty : a.entries ≡ [] = of_none a.entries (sym is ∙ none) in record { epoch = sym (ap last_epoch empty); parent = sym (ap (λ (es : List Entry). last_commit None (in_epoch es (last_epoch es))) empty) } where
-  of_none : (es : List Entry) → stored_after [] es ≡ [] → es ≡ []
+pub end_none : (kept : List StoredEntry) (a : Archive) → kept ≡ stored_after a.config.form [] a.entries → kept ≡ [] → IsStoreEnd a (record { epoch = 0; parent = None })
+end_none kept a is none = let empty : a.entries ≡ [] = of_none a.entries (sym is ∙ none) in record { epoch = sym (ap last_epoch empty); parent = sym (ap (λ (es : List Entry). last_commit a.config.form None (in_epoch es (last_epoch es))) empty) } where
+  of_none : (es : List Entry) → stored_after a.config.form [] es ≡ [] → es ≡ []
   of_none [] is = refl
-  of_none (e ∷ es) is = let wrong : length (stored_after [] (e ∷ es)) ≡ 0 = ap length is in absurd (omega (arith, wrong))
+  of_none (e ∷ es) is = let wrong : length (stored_after a.config.form [] (e ∷ es)) ≡ 0 = ap length is in absurd (omega (arith, wrong))
 
 -- The end of an archive with entries.
-pub end_last : (kept : List StoredEntry) (a : Archive) → Rise 1 0 a.entries → kept ≡ stored_after [] a.entries → (last : StoredEntry) → slice_get kept (length kept - 1) ≡ Some last → IsStoreEnd a (record { epoch = last.epoch; parent = Some last.seen.commit })
+pub end_last : (kept : List StoredEntry) (a : Archive) → Rise 1 0 a.entries → kept ≡ stored_after a.config.form [] a.entries → (last : StoredEntry) → slice_get kept (length kept - 1) ≡ Some last → IsStoreEnd a (record { epoch = last.epoch; parent = Some last.seen.commit })
 end_last kept_ a rise kept_is last is = elim (last_of a.entries) [
   | inl none ↦ absurd (nothing none)
   | inr some ↦ ends some
 ] where
   nothing : a.entries ≡ [] → ⊥
   nothing none =
-      let empty : kept_ ≡ [] = kept_is ∙ ap (stored_after []) none in
+      let empty : kept_ ≡ [] = kept_is ∙ ap (stored_after a.config.form []) none in
       let wrong : None ≡ Some last = sym (ap (λ (es : List StoredEntry). slice_get es (length es - 1)) empty) ∙ is in
       cc
 
@@ -76,13 +76,14 @@ end_last kept_ a rise kept_is last is = elim (last_of a.entries) [
   ends some =
       let es = some.front in
       let e = some.item in
-      let kept : kept_ ≡ stored_after [] es ++ stored_at es e ∷ [] = kept_is ∙ (ap (stored_after []) some.is ∙ stored_more [] es e) in
-      let found : slice_get kept_ (length kept_ - 1) ≡ Some (stored_at es e) = ap (λ (l : List StoredEntry). slice_get l (length l - 1)) kept ∙ last_item (stored_after [] es) (stored_at es e) in
-      let same : last ≡ stored_at es e = of_some (sym is ∙ found) in
+      let form = a.config.form in
+      let kept : kept_ ≡ stored_after form [] es ++ stored_at form es e ∷ [] = kept_is ∙ (ap (stored_after form []) some.is ∙ stored_more form [] es e) in
+      let found : slice_get kept_ (length kept_ - 1) ≡ Some (stored_at form es e) = ap (λ (l : List StoredEntry). slice_get l (length l - 1)) kept ∙ last_item (stored_after form [] es) (stored_at form es e) in
+      let same : last ≡ stored_at form es e = of_some (sym is ∙ found) in
       let greatest = last_is_greatest 1 0 es e (subst (Rise 1 0) some.is rise) in
       let top : last_epoch a.entries ≡ e.epoch = ap last_epoch some.is ∙ greatest.0 in
       let here : in_epoch a.entries (last_epoch a.entries) ≡ in_epoch es e.epoch ++ e ∷ [] = ap (in_epoch a.entries) top ∙ (ap (λ (l : List Entry). in_epoch l e.epoch) some.is ∙ in_epoch-here es e e.epoch refl) in
       record {
         epoch = ap (λ (s : StoredEntry). s.epoch) same ∙ sym top;
-        parent = ap (λ (s : StoredEntry). Some s.seen.commit) same ∙ sym (ap (last_commit None) here ∙ last_commit_is None (in_epoch es e.epoch) e);
+        parent = ap (λ (s : StoredEntry). Some s.seen.commit) same ∙ sym (ap (last_commit form None) here ∙ last_commit_is form None (in_epoch es e.epoch) e);
       }

@@ -1,21 +1,23 @@
 -- The plans of a planner that is finished may be carried out.
-use Rattle.std.specs.Prelude.{◌≡◌, ◌+◌, ◌<◌, ◌≤◌, ℕ, List, [], ◌∷◌, ◌++◌, slice_get, Option, Some, None}
+use Rattle.std.specs.Prelude.{◌≡◌, ◌+◌, ◌*◌, ◌<◌, ◌≤◌, ℕ, List, [], ◌∷◌, ◌++◌, slice_get, Option, Some, None}
 use Rattle.std.proofs.Common.{◌∙◌, sym, ap, subst, arith}
-use Rattle.arch_base.specs.declared.ids.Form.TheVariants as form
+use Rattle.arch_base.specs.declared.ids.Form.{Form}
 use Rattle.disk_model.specs.declared.name.FileKind.{FileKind}
 use Rattle.disk_model.specs.declared.name.FileKind.TheVariants as kind
 use Rattle.disk_model.specs.declared.name.FileName.{FileName}
+use Rattle.disk_model.specs.Sizes.{record_size}
 use Rattle.root_slots.specs.declared.root.Root.{Root}
 use Rattle.root_change.specs.declared.plan.Target.{Target}
 use Rattle.root_change.specs.declared.plan.Target.TheVariants.{Anew, Behind}
 use Rattle.root_change.specs.Rewriting.{Plan, AreApart, IsPartToPlan, IsPlan, IsPlanFrom, MayCarry, file_by, map_by, map_planned, plan_count, plan_of}
 use Rattle.root_change.proofs.PlanParts.{apart_more, is_of_own, of_more}
 use Rattle.number_map.specs.Rewriting.{PlansMap, RisesUpTo}
+use Rattle.number_map.specs.Sizes.{sizes_one, sizes_sum}
 use Rattle.epoch_file.specs.Planning.{Planned}
 use Rattle.store_finding.specs.Files.{map_file_of}
 use Rattle.store_planning.specs.Planning.{AreAnew, AreFrom, ArePlansIn, AreWithin, ClosesLast, FinishesPlans, IsFileIn, IsPlanIn, IsReadyPlan, Planning, Pushes, without_current}
 use Rattle.store_planning.proofs.Planned.{each_plan, of_first}
-use Rattle.store_planning.proofs.Taking.{closed_in}
+use Rattle.store_planning.proofs.Taking.{closed_form, closed_in}
 
 -- A plan of a part of a root, that is written anew.
 pub record IsAnewIn (root : Root) (p : Plan) : Type 0 where
@@ -35,7 +37,7 @@ epoch_anew root p in_ =
       valid = in_.of.valid;
     }
 
-map_anew : (root : Root) (map : FileName) (count : ℕ) (gone : List ℕ) (p : Plan) → map ≡ map_file_of root → PlansMap form.Sha1 map count gone p → IsAnewIn root p
+map_anew : {form : Form} (root : Root) (map : FileName) (count : ℕ) (gone : List ℕ) (p : Plan) → map ≡ map_file_of root → PlansMap form map count gone p → IsAnewIn root p
 map_anew root map count gone p map_is of =
     let own : IsPlanFrom (file_by root kind.Map 0) p = subst (λ (f : FileName). IsPlanFrom f p) map_is of.from in
     let at_number : IsPlanFrom (file_by root kind.Map p.number) p = subst (λ (n : ℕ). IsPlanFrom (file_by root kind.Map n) p) (sym of.number) own in
@@ -45,6 +47,20 @@ map_anew root map count gone p map_is of =
       anew = of.target;
       valid = of.valid;
     }
+
+-- The sizes of records, and of one more.
+one_more : (form : Form) (count : ℕ) → record_size form * count + record_size form ≡ record_size form * (count + 1)
+one_more form count = (let one = sizes_one form in let sum = sizes_sum form count 1 (count + 1) (omega arith) in omega (arith, one, sum))
+
+-- The plan of the map has the form and the numbers that the planner had before.
+last_form : (old : Planning) (current : Option Planned) (mid : Planning) → ClosesLast old current mid → mid.form ≡ old.form
+last_form old None mid is = ap (λ (p : Planning). p.form) is
+last_form old (Some c) mid closes = closed_form (without_current old) closes.0 mid closes.3
+
+pub map_planned_by : (old inside mid : Planning) (map : FileName) (count : ℕ) (plan : Plan) → inside ≡ mid → ClosesLast old old.current mid → PlansMap inside.form map count inside.gone plan → PlansMap old.form map count mid.gone plan
+map_planned_by old inside mid map count plan same closes of =
+    subst (λ (g : Form). PlansMap g map count mid.gone plan) (last_form old old.current mid closes)
+    (subst (λ (p : Planning). PlansMap p.form map count p.gone plan) same of)
 
 isnt_behind : (t : Target) → t ≡ Anew → t ≡ Behind → ⊥
 isnt_behind t is behind = (let wrong : Anew ≡ Behind = sym is ∙ behind in cc)
@@ -62,7 +78,7 @@ module _ (root : Root) (old : Planning) (map : FileName) (count : ℕ) (new : Pl
   abbrev plan : Plan
   plan = finishes.2.0
 
-  of : PlansMap form.Sha1 map count mid.gone plan
+  of : PlansMap old.form map count mid.gone plan
   of = finishes.2.1
 
   pushes : Pushes mid plan new
@@ -103,7 +119,8 @@ module _ (root : Root) (old : Planning) (map : FileName) (count : ℕ) (new : Pl
     λ i p here. (let it = each_anew i p here in it.anew),
     λ within. record {
       plans_may = record { each = carries within; apart = subst AreApart (sym plans_are) (apart_more mid.plans plan apart pushes.1) };
-      map = (let count_is = of.count_is in let long = map_long in omega (arith, long, count_is));
+      map = ap (λ (n : ℕ). n + record_size root.config.form) (map_long ∙ of.count_is)
+          ∙ (ap (λ (g : Form). record_size g * count + record_size root.config.form) are.form ∙ one_more root.config.form count);
       map_plan = plan;
       map_is = map_here;
       map_anew = of.target;

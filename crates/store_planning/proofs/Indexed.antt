@@ -97,17 +97,17 @@ apart_set (q ∷ qs) (suc i) p x here k_is n_is apart = (none_set qs i p x q.kin
 
 -- So what always holds of a planner still does.
 set_so : (top i : ℕ) (p : Planning) (old new : Plan) → IsPlanning top p → slice_get p.plans i ≡ Some old → new.kind ≡ old.kind → new.number ≡ old.number → IsPlan new
-    → IsPlanning top (record { plans = slice_set p.plans i new; entries = p.entries; gone = p.gone; current = p.current })
+    → IsPlanning top (record { plans = slice_set p.plans i new; entries = p.entries; gone = p.gone; current = p.current; form = p.form })
 set_so top i p old new is here k_is n_is valid = record { apart = apart_set p.plans i old new here k_is n_is is.apart; valid = each_set IsPlan p.plans i new is.valid valid; gone = is.gone; form = is.form }
 
 pub planning_set : {T E : Type 0} (top i : ℕ) (p : Planning) (old new : Plan) (bytes : List ℕ) (result : Result T E) → IsPlanning top p → slice_get p.plans i ≡ Some old → OnOk result (new ≡ with_bytes old bytes) → OnOk result (IsPlan new) → OnErr result (new ≡ old)
-    → IsPlanning top (record { plans = slice_set p.plans i new; entries = p.entries; gone = p.gone; current = p.current })
+    → IsPlanning top (record { plans = slice_set p.plans i new; entries = p.entries; gone = p.gone; current = p.current; form = p.form })
 planning_set top i p old new bytes (Ok done) is here more valid stays = set_so top i p old new is here (ap (λ (x : Plan). x.kind) more) (ap (λ (x : Plan). x.number) more) valid
 planning_set top i p old new bytes (Err refused) is here more valid stays = set_so top i p old new is here (ap (λ (x : Plan). x.kind) stays) (ap (λ (x : Plan). x.number) stays) (subst IsPlan (sym stays) (is.valid i old here))
 
 -- A planner with other plans.
 abbrev pub with_plans : Planning → List Plan → Planning
-with_plans p plans = record { plans = plans; entries = p.entries; gone = p.gone; current = p.current }
+with_plans p plans = record { plans = plans; entries = p.entries; gone = p.gone; current = p.current; form = p.form }
 
 -- Bytes were added to the plan of an epoch, or a record to that of the map.
 pub epoch_set : (inside now : Planning) (e i : ℕ) (bytes : List ℕ) (old new : Plan) → inside ≡ now → AreApart inside.plans → (slice_get inside.plans i ≡ Some old) × (plan_of inside.plans kind.Epoch e ≡ Some old) → new ≡ with_bytes old bytes

@@ -5,6 +5,8 @@ use Rattle.std.proofs.lemmas.Option.{same_Some}
 use Rattle.disk_model.specs.Name.{kind_index}
 use Rattle.disk_model.specs.declared.name.FileKind.{FileKind}
 use Rattle.disk_model.specs.declared.name.FileKind.TheVariants as kind
+use Rattle.disk_model.specs.Sizes.{record_size}
+use Rattle.number_map.specs.Sizes.{sizes_one, sizes_sum}
 use Rattle.root_slots.specs.declared.root.Root.{Root}
 use Rattle.root_slots.specs.Valid.{no_place}
 use Rattle.root_change.specs.declared.plan.Target.{Target}
@@ -158,15 +160,15 @@ pub epoch_isnt_map : kind.Map ≡ kind.Epoch → ⊥
 epoch_isnt_map is = let wrong : kind_index kind.Map ≡ kind_index kind.Epoch = ap kind_index is in absurd (omega (arith, wrong))
 
 -- Plans that may be carried out still may with one more message.
-pub ready_more : (root : Root) (plans : List Plan) (next e : ℕ) (piece line : List ℕ) → e ≤ 63 → (plan_of plans kind.Epoch e ≡ None → (get_or root.epochs e no_place).length < 2 ^ 62) → length line ≡ 28 → AreValid (with_record (plans_with plans e piece) line) → IsReadyPlan root plans next
+pub ready_more : (root : Root) (plans : List Plan) (next e : ℕ) (piece line : List ℕ) → e ≤ 63 → (plan_of plans kind.Epoch e ≡ None → (get_or root.epochs e no_place).length < 2 ^ 62) → length line ≡ record_size root.config.form → AreValid (with_record (plans_with plans e piece) line) → IsReadyPlan root plans next
     → IsReadyPlan root (with_record (plans_with plans e piece) line) (next + 1)
 ready_more root plans next e piece line low room size valid ready =
     let mid = plans_with plans e piece in
     let map_mid : plan_of mid kind.Map 0 ≡ Some ready.map_plan = other_with plans e piece kind.Map 0 (λ k_is n_is. epoch_isnt_map k_is) ∙ ready.map_is in
     let map_new = here_record mid line ready.map_plan map_mid in
     let count = count_with_bytes ready.map_plan line in
-    let was : plan_count ready.map_plan + 28 ≡ 28 * next =
-    ap (λ (n : ℕ). n + 28) (sym (ap (λ (o : Option Plan). (map_planned (root.sequence + 1) o root.map).length) ready.map_is ∙ ap (λ (t : Target). (map_by (root.sequence + 1) t root.map (plan_count ready.map_plan)).length) ready.map_anew)) ∙ ready.map in
+    let was : plan_count ready.map_plan + record_size root.config.form ≡ record_size root.config.form * next =
+    ap (λ (n : ℕ). n + record_size root.config.form) (sym (ap (λ (o : Option Plan). (map_planned (root.sequence + 1) o root.map).length) ready.map_is ∙ ap (λ (t : Target). (map_by (root.sequence + 1) t root.map (plan_count ready.map_plan)).length) ready.map_anew)) ∙ ready.map in
     let is : (map_planned (root.sequence + 1) (plan_of (with_record mid line) kind.Map 0) root.map).length ≡ plan_count (with_bytes ready.map_plan line) =
     ap (λ (o : Option Plan). (map_planned (root.sequence + 1) o root.map).length) map_new ∙ ap (λ (t : Target). (map_by (root.sequence + 1) t root.map (plan_count (with_bytes ready.map_plan line))).length) ready.map_anew in
     record {
@@ -174,7 +176,7 @@ ready_more root plans next e piece line low room size valid ready =
         each = λ i p here. carry_of root p (each_record (MayRest root) mid line (each_with (MayRest root) plans e piece (λ j q there. rest_of root q (ready.plans_may.each j q there)) (rest_more root piece) (λ none. rest_new root piece e (omega (arith, low)) (room none))) (rest_more root line) i p here) (valid i p here);
         apart = apart_record mid line (apart_with plans e piece ready.plans_may.apart);
       };
-      map = omega (arith, is, count, was, size);
+      map = (let one = sizes_one root.config.form in let sum = sizes_sum root.config.form next 1 (next + 1) (omega arith) in omega (arith, is, count, was, size, one, sum));
       map_plan = with_bytes ready.map_plan line;
       map_is = map_new;
       map_anew = ready.map_anew;

@@ -10,7 +10,7 @@ use Rattle.std.proofs.lemmas.List.Elements.{filter-append}
 use Rattle.std.proofs.lemmas.Option.{same_Some}
 use Rattle.arch_base.specs.declared.ids.ObjectId.{ObjectId}
 use Rattle.arch_base.specs.declared.ids.Form.{Form}
-use Rattle.arch_base.specs.declared.ids.Form.TheVariants as form
+use Rattle.arch_base.specs.declared.ids.Form.TheVariants.{Sha1, Sha256}
 use Rattle.disk_model.specs.declared.name.FileKind.{FileKind}
 use Rattle.disk_model.specs.declared.name.FileKind.TheVariants as kind
 use Rattle.disk_model.specs.declared.name.FileName.{FileName}
@@ -125,40 +125,47 @@ last_more (x ∷ es) e all =
     ap (greater x.epoch) rest ∙ greater_is x.epoch e.epoch all.0
 
 -- The bytes of entries as those of the entries of a file.
-chain_is : (parent : Option ObjectId) (es : List Entry) → entries_bytes parent es ≡ chain form.Sha1 parent (in_files es)
-chain_is parent [] = refl
-chain_is parent (e ∷ es) = ap (λ (b : List ℕ). entry_bytes form.Sha1 e.kind e.text e.moment parent ++ b) (chain_is (Some (commit_id form.Sha1 e.kind e.text e.moment parent)) es)
+chain_is : (form : Form) (parent : Option ObjectId) (es : List Entry) → entries_bytes form parent es ≡ chain form parent (in_files es)
+chain_is form parent [] = refl
+chain_is form parent (e ∷ es) = ap (λ (b : List ℕ). entry_bytes form e.kind e.text e.moment parent ++ b) (chain_is form (Some (commit_id form e.kind e.text e.moment parent)) es)
 
-pub commit_is : (parent : Option ObjectId) (es : List Entry) → last_commit parent es ≡ last_of form.Sha1 parent (in_files es)
-commit_is parent [] = refl
-commit_is parent (e ∷ es) = commit_is (Some (commit_id form.Sha1 e.kind e.text e.moment parent)) es
+pub commit_is : (form : Form) (parent : Option ObjectId) (es : List Entry) → last_commit form parent es ≡ last_of form parent (in_files es)
+commit_is form parent [] = refl
+commit_is form parent (e ∷ es) = commit_is form (Some (commit_id form e.kind e.text e.moment parent)) es
 
-pub file_is : (es : List Entry) → epoch_bytes es ≡ file_of form.Sha1 (in_files es)
-file_is [] = refl
-file_is (e ∷ es) = ap (λ (b : List ℕ). magic form.Sha1 ++ b) (chain_is None (e ∷ es))
+pub file_is : (form : Form) (es : List Entry) → epoch_bytes form es ≡ file_of form (in_files es)
+file_is form [] = refl
+file_is form (e ∷ es) = ap (λ (b : List ℕ). magic form ++ b) (chain_is form None (e ∷ es))
 
 files_more : (es : List Entry) (e : Entry) → in_files (es ++ e ∷ []) ≡ in_files es ++ in_file e ∷ []
 files_more [] e = refl
 files_more (x ∷ es) e = ap (λ (l : List EpochEntry). in_file x ∷ l) (files_more es e)
 
 -- With one among them.
-chain_split : (parent : Option ObjectId) (xs : List Entry) (e : Entry) (ys : List Entry)
-    → chain form.Sha1 parent (in_files (xs ++ e ∷ ys)) ≡ chain form.Sha1 parent (in_files xs ++ in_file e ∷ []) ++ chain form.Sha1 (Some (commit_after form.Sha1 (last_of form.Sha1 parent (in_files xs)) (in_file e))) (in_files ys)
-chain_split parent [] e ys = ap (λ (b : List ℕ). b ++ chain form.Sha1 (Some (commit_after form.Sha1 parent (in_file e))) (in_files ys)) (sym (append-nil (bytes_after form.Sha1 parent (in_file e))))
-chain_split parent (x ∷ xs) e ys =
-    let next : Option ObjectId = Some (commit_after form.Sha1 parent (in_file x)) in
-    ap (λ (b : List ℕ). bytes_after form.Sha1 parent (in_file x) ++ b) (chain_split next xs e ys)
-    ∙ sym (append_assoc (bytes_after form.Sha1 parent (in_file x)) (chain form.Sha1 next (in_files xs ++ in_file e ∷ [])) (chain form.Sha1 (Some (commit_after form.Sha1 (last_of form.Sha1 next (in_files xs)) (in_file e))) (in_files ys)))
+chain_split : (form : Form) (parent : Option ObjectId) (xs : List Entry) (e : Entry) (ys : List Entry)
+    → chain form parent (in_files (xs ++ e ∷ ys)) ≡ chain form parent (in_files xs ++ in_file e ∷ []) ++ chain form (Some (commit_after form (last_of form parent (in_files xs)) (in_file e))) (in_files ys)
+chain_split form parent [] e ys = ap (λ (b : List ℕ). b ++ chain form (Some (commit_after form parent (in_file e))) (in_files ys)) (sym (append-nil (bytes_after form parent (in_file e))))
+chain_split form parent (x ∷ xs) e ys =
+    let next : Option ObjectId = Some (commit_after form parent (in_file x)) in
+    ap (λ (b : List ℕ). bytes_after form parent (in_file x) ++ b) (chain_split form next xs e ys)
+    ∙ sym (append_assoc (bytes_after form parent (in_file x)) (chain form next (in_files xs ++ in_file e ∷ [])) (chain form (Some (commit_after form (last_of form next (in_files xs)) (in_file e))) (in_files ys)))
 
-whole_is : (xs : List Entry) (e : Entry) (ys : List Entry) → epoch_bytes (xs ++ e ∷ ys) ≡ magic form.Sha1 ++ chain form.Sha1 None (in_files (xs ++ e ∷ ys))
-whole_is [] e ys = ap (λ (b : List ℕ). magic form.Sha1 ++ b) (chain_is None (e ∷ ys))
-whole_is (x ∷ xs) e ys = ap (λ (b : List ℕ). magic form.Sha1 ++ b) (chain_is None ((x ∷ xs) ++ e ∷ ys))
+whole_is : (form : Form) (xs : List Entry) (e : Entry) (ys : List Entry) → epoch_bytes form (xs ++ e ∷ ys) ≡ magic form ++ chain form None (in_files (xs ++ e ∷ ys))
+whole_is form [] e ys = ap (λ (b : List ℕ). magic form ++ b) (chain_is form None (e ∷ ys))
+whole_is form (x ∷ xs) e ys = ap (λ (b : List ℕ). magic form ++ b) (chain_is form None ((x ∷ xs) ++ e ∷ ys))
+
+-- A magic has eight bytes.
+pub magic_long : (form : Form) → length (magic form) ≡ 8
+magic_long Sha1 = refl
+magic_long Sha256 = refl
 
 -- What is kept of an entry is what is recorded of it in its file.
-pub seen_is : (es : List Entry) (e : Entry) → (stored_at es e).seen ≡ seen_after form.Sha1 (in_files (in_epoch es e.epoch)) (in_file e)
-seen_is es e = λ i. seen_at form.Sha1 (at i) (commit_is None (in_epoch es e.epoch) i) (in_file e) where
-  at : 8 + length (entries_bytes None (in_epoch es e.epoch)) ≡ length (epoch_of form.Sha1 (in_files (in_epoch es e.epoch)))
-  at = ap (λ (b : List ℕ). 8 + length b) (chain_is None (in_epoch es e.epoch)) ∙ sym (length-append (magic form.Sha1) (chain form.Sha1 None (in_files (in_epoch es e.epoch))))
+pub seen_is : (form : Form) (es : List Entry) (e : Entry) → (stored_at form es e).seen ≡ seen_after form (in_files (in_epoch es e.epoch)) (in_file e)
+seen_is form es e = λ i. seen_at form (at i) (commit_is form None (in_epoch es e.epoch) i) (in_file e) where
+  at : 8 + length (entries_bytes form None (in_epoch es e.epoch)) ≡ length (epoch_of form (in_files (in_epoch es e.epoch)))
+  at =
+      ap (λ (b : List ℕ). 8 + length b) (chain_is form None (in_epoch es e.epoch))
+      ∙ (ap (λ (n : ℕ). n + length (chain form None (in_files (in_epoch es e.epoch)))) (sym (magic_long form)) ∙ sym (length-append (magic form) (chain form None (in_files (in_epoch es e.epoch)))))
 
 -- The numbers of messages with a text, with one more entry.
 gone_step : (t : Bool) (n : ℕ) (ns more : List ℕ) → (if t then n ∷ (ns ++ more) else (ns ++ more)) ≡ (if t then n ∷ ns else ns) ++ more
@@ -201,34 +208,36 @@ each_plan P (x ∷ xs) last each one (suc i) p is = each_plan P xs last (λ j q 
 
 -- A plan is ready for the next entry: epochs before its own are planned whole, and none from it on.
 pub record IsOpened (texts : Texts) (root : Root) (a : Archive) (es : List Entry) (text : List ℕ) (n : ℕ) (mid : Planning) (plan : Planned) : Type 0 where
-  pub entries : mid.entries ≡ stored_after [] (without_text es text)
+  pub entries : mid.entries ≡ stored_after a.config.form [] (without_text es text)
   pub gone : mid.gone ≡ gone_of es text
   pub before : (x : ℕ) → x < n → planned texts (plan_of mid.plans kind.Epoch x) (bytes_in a x) ≡ bytes_in (without_entries a text) x
   pub after : (x : ℕ) → n ≤ x → plan_of mid.plans kind.Epoch x ≡ None
   pub map : (x : ℕ) → plan_of mid.plans kind.Map x ≡ None
   pub whole : (i : ℕ) (p : Plan) → slice_get mid.plans i ≡ Some p → IsPlanWhole texts p
   pub file : plan.file ≡ epoch_file_of root n
-  pub form_is : plan.form ≡ form.Sha1
+  pub form_is : plan.form ≡ a.config.form
+  pub own_form : mid.form ≡ a.config.form
   pub is : IsPlanned texts (in_files (in_epoch es n)) (in_files (in_epoch (without_text es text) n)) plan
 
 -- The bytes of an epoch by its plan, if it has one.
 pub planned_none : (texts : Texts) (p : Option Plan) (before : List ℕ) → p ≡ None → planned texts p before ≡ before
 planned_none texts p before is = ap (λ (o : Option Plan). planned texts o before) is
 
-pub epochs_same : (es fs : List Entry) → in_files fs ≡ in_files es → epoch_bytes es ≡ epoch_bytes fs
-epochs_same es fs is = file_is es ∙ (ap (file_of form.Sha1) (sym is) ∙ sym (file_is fs))
+pub epochs_same : (form : Form) (es fs : List Entry) → in_files fs ≡ in_files es → epoch_bytes form es ≡ epoch_bytes form fs
+epochs_same form es fs is = file_is form es ∙ (ap (file_of form) (sym is) ∙ sym (file_is form fs))
 
 -- The current epoch was closed: epochs up to it are planned whole, and none after it.
 pub record IsShut (texts : Texts) (a : Archive) (es : List Entry) (text : List ℕ) (mid : Planning) : Type 0 where
-  pub entries : mid.entries ≡ stored_after [] (without_text es text)
+  pub entries : mid.entries ≡ stored_after a.config.form [] (without_text es text)
   pub gone : mid.gone ≡ gone_of es text
   pub before : (x : ℕ) → x ≤ last_epoch es → planned texts (plan_of mid.plans kind.Epoch x) (bytes_in a x) ≡ bytes_in (without_entries a text) x
   pub after : (x : ℕ) → last_epoch es < x → plan_of mid.plans kind.Epoch x ≡ None
   pub map : (x : ℕ) → plan_of mid.plans kind.Map x ≡ None
   pub whole : (i : ℕ) (p : Plan) → slice_get mid.plans i ≡ Some p → IsPlanWhole texts p
+  pub own_form : mid.form ≡ a.config.form
 
-module _ (texts : Texts) (root : Root) (a : Archive) (es : List Entry) (text : List ℕ) (old : Planning) (up : IsPlannedUpTo texts root a es text old) (c : Planned) (current : IsCurrent texts root es text (Some c))
-    (reads : (x : ℕ) → x ≤ last_epoch es → bytes_in a x ≡ epoch_bytes (in_epoch es x)) (keeps : (x : ℕ) → x ≤ last_epoch es → bytes_in (without_entries a text) x ≡ epoch_bytes (in_epoch (without_text es text) x)) where
+module _ (texts : Texts) (root : Root) (a : Archive) (es : List Entry) (text : List ℕ) (old : Planning) (up : IsPlannedUpTo texts root a es text old) (c : Planned) (current : IsCurrent a.config.form texts root es text (Some c))
+    (reads : (x : ℕ) → x ≤ last_epoch es → bytes_in a x ≡ epoch_bytes a.config.form (in_epoch es x)) (keeps : (x : ℕ) → x ≤ last_epoch es → bytes_in (without_entries a text) x ≡ epoch_bytes a.config.form (in_epoch (without_text es text) x)) where
   pub shut : (finished : Option Plan) → FinishesPlan c finished → IsOfEpoch c.file finished → (mid : Planning) → ClosesAs (without_current old) finished mid → IsShut texts a es text mid
   shut None finishes of mid stays = subst (IsShut texts a es text) (sym stays) (record {
     entries = up.entries;
@@ -238,12 +247,13 @@ module _ (texts : Texts) (root : Root) (a : Archive) (es : List Entry) (text : L
       | inr high ↦
           let x_is : last_epoch es ≡ x = omega (arith, high, most) in
           let unchanged : in_files (in_epoch (without_text es text) (last_epoch es)) ≡ in_files (in_epoch es (last_epoch es)) = finishes texts (in_files (in_epoch es (last_epoch es))) (in_files (in_epoch (without_text es text) (last_epoch es))) current.1 in
-          let so : epoch_bytes (in_epoch es x) ≡ epoch_bytes (in_epoch (without_text es text) x) = subst (λ (n : ℕ). epoch_bytes (in_epoch es n) ≡ epoch_bytes (in_epoch (without_text es text) n)) x_is (epochs_same (in_epoch es (last_epoch es)) (in_epoch (without_text es text) (last_epoch es)) unchanged) in
+          let so : epoch_bytes a.config.form (in_epoch es x) ≡ epoch_bytes a.config.form (in_epoch (without_text es text) x) = subst (λ (n : ℕ). epoch_bytes a.config.form (in_epoch es n) ≡ epoch_bytes a.config.form (in_epoch (without_text es text) n)) x_is (epochs_same a.config.form (in_epoch es (last_epoch es)) (in_epoch (without_text es text) (last_epoch es)) unchanged) in
           planned_none texts (plan_of old.plans kind.Epoch x) (bytes_in a x) (up.after x high) ∙ (reads x most ∙ (so ∙ sym (keeps x most)))
     ];
     after = λ x high. up.after x (omega (arith, high));
     map = up.map;
     whole = up.whole;
+    own_form = up.form;
   })
   shut (Some plan) finishes of mid pushed = subst (IsShut texts a es text) (sym pushed.0) (record {
     entries = up.entries;
@@ -251,9 +261,9 @@ module _ (texts : Texts) (root : Root) (a : Archive) (es : List Entry) (text : L
     before = λ x most. elim (equal_or_not x (last_epoch es)) [
       | inl x_is ↦
           let here : plan_of (old.plans ++ plan ∷ []) kind.Epoch x ≡ Some plan = of_more old.plans (plan ∷ []) kind.Epoch x (up.after x (omega (arith, x_is))) ∙ of_first plan [] kind.Epoch x (is_of_own plan kind.Epoch x of.kind (number_is ∙ sym x_is)) in
-          let written : written_by texts plan ≡ file_of form.Sha1 (in_files (in_epoch (without_text es text) x)) = subst (λ (n : ℕ). written_by texts plan ≡ file_of form.Sha1 (in_files (in_epoch (without_text es text) n))) (sym x_is) whole_so.2 in
+          let written : written_by texts plan ≡ file_of a.config.form (in_files (in_epoch (without_text es text) x)) = subst (λ (n : ℕ). written_by texts plan ≡ file_of a.config.form (in_files (in_epoch (without_text es text) n))) (sym x_is) whole_so.2 in
           ap (λ (o : Option Plan). planned texts o (bytes_in a x)) here
-          ∙ (ap (λ (t : Target). bytes_by t (bytes_in a x) (written_by texts plan)) of.target ∙ (written ∙ (sym (file_is (in_epoch (without_text es text) x)) ∙ sym (keeps x most))))
+          ∙ (ap (λ (t : Target). bytes_by t (bytes_in a x) (written_by texts plan)) of.target ∙ (written ∙ (sym (file_is a.config.form (in_epoch (without_text es text) x)) ∙ sym (keeps x most))))
       | inr other ↦
           let stays : plan_of (old.plans ++ plan ∷ []) kind.Epoch x ≡ plan_of old.plans kind.Epoch x = of_others old.plans plan kind.Epoch x (other_part plan kind.Epoch x (λ k_is n_is. other (sym n_is ∙ number_is))) in
           ap (λ (o : Option Plan). planned texts o (bytes_in a x)) stays ∙ up.before x (omega (arith, most, other))
@@ -261,11 +271,12 @@ module _ (texts : Texts) (root : Root) (a : Archive) (es : List Entry) (text : L
     after = λ x high. of_others old.plans plan kind.Epoch x (other_part plan kind.Epoch x (λ k_is n_is. (let n = number_is in absurd (omega (arith, n_is, n, high))))) ∙ up.after x (omega (arith, high));
     map = λ x. of_others old.plans plan kind.Map x (other_part plan kind.Map x (λ k_is n_is. absurd (let wrong : kind_index kind.Epoch ≡ kind_index kind.Map = ap kind_index (sym of.kind ∙ k_is) in omega (arith, wrong)))) ∙ up.map x;
     whole = each_plan (IsPlanWhole texts) old.plans plan up.whole whole_so.1;
+    own_form = up.form;
   }) where
     number_is : plan.number ≡ last_epoch es
     number_is = of.number ∙ ap (λ (f : FileName). f.number) current.0
 
-    whole_so : IsFinished form.Sha1 texts (in_files (in_epoch es (last_epoch es))) (in_files (in_epoch (without_text es text) (last_epoch es))) (Some plan)
+    whole_so : IsFinished a.config.form texts (in_files (in_epoch es (last_epoch es))) (in_files (in_epoch (without_text es text) (last_epoch es))) (Some plan)
     whole_so =
         subst (λ (g : Form). IsFinished g texts (in_files (in_epoch es (last_epoch es))) (in_files (in_epoch (without_text es text) (last_epoch es))) (Some plan)) current.2
         (finishes texts (in_files (in_epoch es (last_epoch es))) (in_files (in_epoch (without_text es text) (last_epoch es))) current.1)
@@ -285,14 +296,14 @@ module _ (k : Content) (v : StoreState) (cache : List ℕ) (a : Archive) (own : 
   apart_later x less = all_weaker (λ (f : Entry). e.epoch ≤ f.epoch) (λ (f : Entry). f.epoch ≢ x) (e ∷ rest) (λ f at same. absurd (omega (arith, at, same, less))) later
 
   -- The bytes of epochs before its own.
-  bytes_before : (x : ℕ) → x < e.epoch → bytes_in a x ≡ epoch_bytes (in_epoch es x)
-  bytes_before x less = ap (λ (l : List Entry). epoch_bytes (in_epoch l x)) is ∙ ap epoch_bytes (in_epoch_front es (e ∷ rest) x (apart_later x less))
+  bytes_before : (x : ℕ) → x < e.epoch → bytes_in a x ≡ epoch_bytes a.config.form (in_epoch es x)
+  bytes_before x less = ap (λ (l : List Entry). epoch_bytes a.config.form (in_epoch l x)) is ∙ ap (epoch_bytes a.config.form) (in_epoch_front es (e ∷ rest) x (apart_later x less))
 
-  kept_before : (x : ℕ) → x < e.epoch → bytes_in (without_entries a text) x ≡ epoch_bytes (in_epoch (without_text es text) x)
+  kept_before : (x : ℕ) → x < e.epoch → bytes_in (without_entries a text) x ≡ epoch_bytes a.config.form (in_epoch (without_text es text) x)
   kept_before x less =
-      ap (λ (l : List Entry). epoch_bytes (in_epoch (without_text l text) x)) is
-      ∙ (ap (λ (l : List Entry). epoch_bytes (in_epoch l x)) (without_append es (e ∷ rest) text)
-      ∙ ap epoch_bytes (in_epoch_front (without_text es text) (without_text (e ∷ rest) text) x (without_all (λ (f : Entry). f.epoch ≢ x) (e ∷ rest) text (apart_later x less))))
+      ap (λ (l : List Entry). epoch_bytes a.config.form (in_epoch (without_text l text) x)) is
+      ∙ (ap (λ (l : List Entry). epoch_bytes a.config.form (in_epoch l x)) (without_append es (e ∷ rest) text)
+      ∙ ap (epoch_bytes a.config.form) (in_epoch_front (without_text es text) (without_text (e ∷ rest) text) x (without_all (λ (f : Entry). f.epoch ≢ x) (e ∷ rest) text (apart_later x less))))
 
   -- No entry so far is in an epoch after the last one.
   none_so_far : (x : ℕ) → last_epoch es < x → AllByRecursion (λ (f : Entry). f.epoch ≢ x) es
@@ -301,32 +312,33 @@ module _ (k : Content) (v : StoreState) (cache : List ℕ) (a : Archive) (own : 
   entry : IsEntry e
   entry = one_of_all IsEntry es e rest (subst (AllByRecursion IsEntry) is own.keeps.valid.entries)
 
-  bytes_are : bytes_in a e.epoch ≡ magic form.Sha1 ++ chain form.Sha1 None (in_files (in_epoch es e.epoch ++ e ∷ in_epoch rest e.epoch))
+  bytes_are : bytes_in a e.epoch ≡ magic a.config.form ++ chain a.config.form None (in_files (in_epoch es e.epoch ++ e ∷ in_epoch rest e.epoch))
   bytes_are =
-      ap (λ (l : List Entry). epoch_bytes (in_epoch l e.epoch)) is
-      ∙ (ap epoch_bytes (in_epoch_split es e rest) ∙ whole_is (in_epoch es e.epoch) e (in_epoch rest e.epoch))
+      ap (λ (l : List Entry). epoch_bytes a.config.form (in_epoch l e.epoch)) is
+      ∙ (ap (epoch_bytes a.config.form) (in_epoch_split es e rest) ∙ whole_is a.config.form (in_epoch es e.epoch) e (in_epoch rest e.epoch))
 
   file_reads : texts_in k (epoch_file_of v.root e.epoch) ≡ bytes_in a e.epoch
   file_reads =
       let name = epoch_file_of v.root e.epoch in
       let generation = (get_or v.root.epochs e.epoch no_place).generation in
       let low = entry.epoch in
+      let eight = magic_long a.config.form in
       let size = ap length bytes_are in
-      let parts = length-append (magic form.Sha1) (chain form.Sha1 None (in_files (in_epoch es e.epoch ++ e ∷ in_epoch rest e.epoch))) in
+      let parts = length-append (magic a.config.form) (chain a.config.form None (in_files (in_epoch es e.epoch ++ e ∷ in_epoch rest e.epoch))) in
       let long = own.keeps.names.epochs e.epoch (omega (arith, low)) in
-      let some : 0 < (get_or v.root.epochs e.epoch no_place).length = omega (arith, size, parts, long) in
+      let some : 0 < (get_or v.root.epochs e.epoch no_place).length = omega (arith, size, parts, eight, long) in
       own.on.exact.ends name (epoch_isnt_root e.epoch generation) ∙ text_named v.root (parts_of a cache) name (epoch_is_named v.root e.epoch generation (omega (arith, low)) some refl)
 
   -- Its file has it after those before.
-  pub has_next : HasNext form.Sha1 (texts_in k) (epoch_file_of v.root e.epoch) (in_files (in_epoch es e.epoch)) (in_file e)
+  pub has_next : HasNext a.config.form (texts_in k) (epoch_file_of v.root e.epoch) (in_files (in_epoch es e.epoch)) (in_file e)
   has_next =
       let xs = in_epoch es e.epoch in
       let ys = in_epoch rest e.epoch in
-      let more = chain form.Sha1 (Some (commit_after form.Sha1 (last_of form.Sha1 None (in_files xs)) (in_file e))) (in_files ys) in
+      let more = chain a.config.form (Some (commit_after a.config.form (last_of a.config.form None (in_files xs)) (in_file e))) (in_files ys) in
       record {
         valid = record { text = entry.text; moment = entry.moment };
         rest = more;
-        is = file_reads ∙ (bytes_are ∙ (ap (λ (b : List ℕ). magic form.Sha1 ++ b) (chain_split None xs e ys) ∙ sym (append_assoc (magic form.Sha1) (chain form.Sha1 None (in_files xs ++ in_file e ∷ [])) more)));
+        is = file_reads ∙ (bytes_are ∙ (ap (λ (b : List ℕ). magic a.config.form ++ b) (chain_split a.config.form None xs e ys) ∙ sym (append_assoc (magic a.config.form) (chain a.config.form None (in_files xs ++ in_file e ∷ [])) more)));
       }
 
   module _ (old : Planning) (up : IsPlannedUpTo (texts_in k) v.root a es text old) (file : FileName) (file_by : file ≡ epoch_file_of v.root e.epoch) where
@@ -340,16 +352,16 @@ module _ (k : Content) (v : StoreState) (cache : List ℕ) (a : Archive) (own : 
     gap : (plans : List Plan) (x : ℕ) → x < e.epoch → plan_of plans kind.Epoch x ≡ None → AllByRecursion (λ (f : Entry). f.epoch ≢ x) es → planned (texts_in k) (plan_of plans kind.Epoch x) (bytes_in a x) ≡ bytes_in (without_entries a text) x
     gap plans x less none all =
         planned_none (texts_in k) (plan_of plans kind.Epoch x) (bytes_in a x) none
-        ∙ (bytes_before x less ∙ (ap epoch_bytes (in_epoch_none es x all) ∙ (ap epoch_bytes (sym (in_epoch_none (without_text es text) x (without_all (λ (f : Entry). f.epoch ≢ x) es text all))) ∙ sym (kept_before x less))))
+        ∙ (bytes_before x less ∙ (ap (epoch_bytes a.config.form) (in_epoch_none es x all) ∙ (ap (epoch_bytes a.config.form) (sym (in_epoch_none (without_text es text) x (without_all (λ (f : Entry). f.epoch ≢ x) es text all))) ∙ sym (kept_before x less))))
 
     -- The plan of a file before its first entry.
-    starts : AllByRecursion (λ (f : Entry). f.epoch ≢ e.epoch) es → IsPlanned (texts_in k) (in_files (in_epoch es e.epoch)) (in_files (in_epoch (without_text es text) e.epoch)) (epoch_start file)
+    starts : AllByRecursion (λ (f : Entry). f.epoch ≢ e.epoch) es → IsPlanned (texts_in k) (in_files (in_epoch es e.epoch)) (in_files (in_epoch (without_text es text) e.epoch)) (epoch_start old.form file)
     starts all =
         let here = in_epoch_none es e.epoch all in
         let kept = in_epoch_none (without_text es text) e.epoch (without_all (λ (f : Entry). f.epoch ≢ e.epoch) es text all) in
-        record { plan = ap in_files (kept ∙ sym here); parent = ap (λ (l : List Entry). last_of form.Sha1 None (in_files l)) (sym kept) }
+        record { plan = ap in_files (kept ∙ sym here); parent = ap (λ (l : List Entry). last_of old.form None (in_files l)) (sym kept) }
 
-    first : es ≡ [] → IsOpened (texts_in k) v.root a es text e.epoch (without_current old) (epoch_start file)
+    first : es ≡ [] → IsOpened (texts_in k) v.root a es text e.epoch (without_current old) (epoch_start old.form file)
     first none =
         let no : (x : ℕ) → AllByRecursion (λ (f : Entry). f.epoch ≢ x) es = λ x. subst (AllByRecursion (λ (f : Entry). f.epoch ≢ x)) (sym none) tt in
         let zero_is : top ≡ 0 = ap last_epoch none in
@@ -361,11 +373,12 @@ module _ (k : Content) (v : StoreState) (cache : List ℕ) (a : Archive) (own : 
           map = up.map;
           whole = up.whole;
           file = file_by;
-          form_is = refl;
+          form_is = up.form;
+          own_form = up.form;
           is = starts (no e.epoch);
         }
 
-    same : (c : Planned) → IsCurrent (texts_in k) v.root es text (Some c) → c.file ≡ file → IsOpened (texts_in k) v.root a es text e.epoch (without_current old) c
+    same : (c : Planned) → IsCurrent a.config.form (texts_in k) v.root es text (Some c) → c.file ≡ file → IsOpened (texts_in k) v.root a es text e.epoch (without_current old) c
     same c current here =
         let epoch_is : top ≡ e.epoch = ap (λ (f : FileName). f.number) (sym current.0 ∙ (here ∙ file_by)) in
         record {
@@ -377,11 +390,12 @@ module _ (k : Content) (v : StoreState) (cache : List ℕ) (a : Archive) (own : 
           whole = up.whole;
           file = here ∙ file_by;
           form_is = current.2;
+          own_form = up.form;
           is = subst (λ (n : ℕ). IsPlanned (texts_in k) (in_files (in_epoch es n)) (in_files (in_epoch (without_text es text) n)) c) epoch_is current.1;
         }
 
     -- The current epoch is before this one, and was closed.
-    module _ (c : Planned) (current : IsCurrent (texts_in k) v.root es text (Some c)) (apart : c.file ≢ file) where
+    module _ (c : Planned) (current : IsCurrent a.config.form (texts_in k) v.root es text (Some c)) (apart : c.file ≢ file) where
       below : top < e.epoch
       below = elim (cases_lt top e.epoch) [
         | inl less ↦ less
@@ -391,7 +405,7 @@ module _ (k : Content) (v : StoreState) (cache : List ℕ) (a : Archive) (own : 
       no_more : (x : ℕ) → top < x → AllByRecursion (λ (f : Entry). f.epoch ≢ x) es
       no_more x less = none_so_far x less
 
-      closed : (finished : Option Plan) → FinishesPlan c finished → IsOfEpoch c.file finished → (mid : Planning) → ClosesAs (without_current old) finished mid → IsOpened (texts_in k) v.root a es text e.epoch mid (epoch_start file)
+      closed : (finished : Option Plan) → FinishesPlan c finished → IsOfEpoch c.file finished → (mid : Planning) → ClosesAs (without_current old) finished mid → IsOpened (texts_in k) v.root a es text e.epoch mid (epoch_start old.form file)
       closed finished finishes of mid closes =
           let less = below in
           let shut_so = shut (texts_in k) v.root a es text old up c current (λ x low. bytes_before x (omega (arith, low, less))) (λ x low. kept_before x (omega (arith, low, less))) finished finishes of mid closes in
@@ -406,12 +420,13 @@ module _ (k : Content) (v : StoreState) (cache : List ℕ) (a : Archive) (own : 
             map = shut_so.map;
             whole = shut_so.whole;
             file = file_by;
-            form_is = refl;
+            form_is = up.form;
+            own_form = shut_so.own_form;
             is = starts (no_more e.epoch less);
           }
 
     -- The plan of the entry's file, whatever was current.
-    pub opened : (current : Option Planned) → IsCurrent (texts_in k) v.root es text current → (mid : Planning) (plan : Planned) → OpensBy old file current mid plan → IsOpened (texts_in k) v.root a es text e.epoch mid plan
+    pub opened : (current : Option Planned) → IsCurrent a.config.form (texts_in k) v.root es text current → (mid : Planning) (plan : Planned) → OpensBy old file current mid plan → IsOpened (texts_in k) v.root a es text e.epoch mid plan
     opened None none mid plan by =
         subst (λ (p : Planning). IsOpened (texts_in k) v.root a es text e.epoch p plan) (sym by.0) (subst (IsOpened (texts_in k) v.root a es text e.epoch (without_current old)) (sym by.1) (first none))
     opened (Some c) current mid plan (inl here) =
@@ -426,9 +441,9 @@ module _ (k : Content) (v : StoreState) (cache : List ℕ) (a : Archive) (own : 
 
     -- The planner then.
     abbrev pub with_plan : List StoredEntry → List ℕ → Planning
-    with_plan entries gone = record { plans = mid.plans; entries = entries; gone = gone; current = Some after }
+    with_plan entries gone = record { plans = mid.plans; entries = entries; gone = gone; current = Some after; form = mid.form }
 
-    up_more : (entries : List StoredEntry) (gone : List ℕ) → entries ≡ stored_after [] (without_text (es ++ e ∷ []) text) → gone ≡ gone_of (es ++ e ∷ []) text
+    up_more : (entries : List StoredEntry) (gone : List ℕ) → entries ≡ stored_after a.config.form [] (without_text (es ++ e ∷ []) text) → gone ≡ gone_of (es ++ e ∷ []) text
         → IsPlanned (texts_in k) (in_files (in_epoch es e.epoch) ++ in_file e ∷ []) (in_files (in_epoch (without_text (es ++ e ∷ []) text) e.epoch)) after → IsPlannedUpTo (texts_in k) v.root a (es ++ e ∷ []) text (with_plan entries gone)
     up_more entries gone entries_are gone_are planned_so =
         let n = last_more es e earlier in
@@ -439,19 +454,20 @@ module _ (k : Content) (v : StoreState) (cache : List ℕ) (a : Archive) (own : 
           after = λ x high. open_.after x (omega (arith, high, n));
           map = open_.map;
           whole = open_.whole;
-          current = subst (λ (m : ℕ). (after.file ≡ epoch_file_of v.root m) × IsPlanned (texts_in k) (in_files (in_epoch (es ++ e ∷ []) m)) (in_files (in_epoch (without_text (es ++ e ∷ []) text) m)) after × (after.form ≡ form.Sha1)) (sym n) (
+          current = subst (λ (m : ℕ). (after.file ≡ epoch_file_of v.root m) × IsPlanned (texts_in k) (in_files (in_epoch (es ++ e ∷ []) m)) (in_files (in_epoch (without_text (es ++ e ∷ []) text) m)) after × (after.form ≡ a.config.form)) (sym n) (
             after_file ∙ open_.file,
             subst (λ (l : List EpochEntry). IsPlanned (texts_in k) l (in_files (in_epoch (without_text (es ++ e ∷ []) text) e.epoch)) after) (sym here_more) planned_so,
             after_form ∙ open_.form_is,
           );
+          form = open_.own_form;
         }
 
-    pub up_kept : (made : StoredEntry) → bytes_eq text e.text ≡ false → made ≡ stored_at (without_text es text) e
+    pub up_kept : (made : StoredEntry) → bytes_eq text e.text ≡ false → made ≡ stored_at a.config.form (without_text es text) e
         → IsPlanned (texts_in k) (in_files (in_epoch es e.epoch) ++ in_file e ∷ []) (in_files (in_epoch (without_text es text) e.epoch) ++ in_file e ∷ []) after → IsPlannedUpTo (texts_in k) v.root a (es ++ e ∷ []) text (with_plan (mid.entries ++ made ∷ []) mid.gone)
     up_kept made other made_is planned_so =
         let stays = without_kept es e text other in
         up_more (mid.entries ++ made ∷ []) mid.gone
-        (ap (λ (l : List StoredEntry). l ++ made ∷ []) open_.entries ∙ (ap (λ (s : StoredEntry). stored_after [] (without_text es text) ++ s ∷ []) made_is ∙ (sym (stored_more [] (without_text es text) e) ∙ ap (stored_after []) (sym stays))))
+        (ap (λ (l : List StoredEntry). l ++ made ∷ []) open_.entries ∙ (ap (λ (s : StoredEntry). stored_after a.config.form [] (without_text es text) ++ s ∷ []) made_is ∙ (sym (stored_more a.config.form [] (without_text es text) e) ∙ ap (stored_after a.config.form []) (sym stays))))
         (open_.gone ∙ sym (gone_kept es e text other))
         (subst (λ (l : List EpochEntry). IsPlanned (texts_in k) (in_files (in_epoch es e.epoch) ++ in_file e ∷ []) l after)
         (sym (ap (λ (l : List Entry). in_files (in_epoch l e.epoch)) stays ∙ (ap in_files (in_epoch-here (without_text es text) e e.epoch refl) ∙ files_more (in_epoch (without_text es text) e.epoch) e))) planned_so)
@@ -461,6 +477,6 @@ module _ (k : Content) (v : StoreState) (cache : List ℕ) (a : Archive) (own : 
     up_left this planned_so =
         let dropped = without_left es e text this in
         up_more mid.entries (gone_with e.kind mid.gone e.number)
-        (open_.entries ∙ ap (stored_after []) (sym dropped))
+        (open_.entries ∙ ap (stored_after a.config.form []) (sym dropped))
         (ap (λ (l : List ℕ). gone_with e.kind l e.number) open_.gone ∙ sym (gone_left es e text this))
         (subst (λ (l : List EpochEntry). IsPlanned (texts_in k) (in_files (in_epoch es e.epoch) ++ in_file e ∷ []) l after) (sym (ap (λ (l : List Entry). in_files (in_epoch l e.epoch)) dropped)) planned_so)

@@ -4,10 +4,11 @@ use Rattle.std.specs.List.{flat_map}
 use Rattle.std.proofs.Common.{◌∙◌, sym, ap, subst, inl, inr, arith}
 use Rattle.std.proofs.lemmas.Bool.{cases_lt}
 use Rattle.std.proofs.lemmas.List.{take_all}
-use Rattle.arch_base.specs.declared.ids.Form.TheVariants as form
+use Rattle.arch_base.specs.declared.ids.Form.{Form}
 use Rattle.disk_model.specs.declared.name.FileKind.{FileKind}
 use Rattle.disk_model.specs.declared.name.FileKind.TheVariants as kind
 use Rattle.disk_model.specs.declared.name.FileName.{FileName}
+use Rattle.disk_model.specs.Sizes.{record_size}
 use Rattle.root_slots.specs.declared.root.Root.{Root}
 use Rattle.root_slots.specs.Valid.{no_place}
 use Rattle.root_change.specs.declared.sources.Source.{Source}
@@ -49,31 +50,31 @@ epoch_within root plan in_ up = λ j s found.
     source_within root (epoch_file_of root plan.number) s (named_length root plan.number) (in_.of.from j s found) (sym (counts_all root kind.Epoch plan.number (omega (arith, low)))) (up j s found)
 
 -- The plan of a map takes ranges of its records: so it is where these have no message.
-map_up : (map : FileName) (count : ℕ) (gone : List ℕ) (plan : Plan) → PlansMap form.Sha1 map count gone plan → EndUpTo (28 * count) plan
-map_up map count gone plan of = λ j s found. by s (whole j s found) where
+map_up : (form : Form) (map : FileName) (count : ℕ) (gone : List ℕ) (plan : Plan) → PlansMap form map count gone plan → EndUpTo (record_size form * count) plan
+map_up form map count gone plan of = λ j s found. by s (whole j s found) where
   lines : List Record
-  lines = records_from [] 1 count
+  lines = records_from form [] 1 count
 
   bytes : List ℕ
   bytes = flat_map record_bytes lines
 
-  valid : AreRecordsFrom form.Sha1 1 lines
-  valid = records_are_valid [] 1 count tt
+  valid : AreRecordsFrom form 1 lines
+  valid = records_are_valid form [] 1 count tt
 
-  size : length bytes ≡ 28 * count
-  size = records_length form.Sha1 1 lines valid ∙ ap (λ (n : ℕ). 28 * n) (records_count [] 1 count)
+  size : length bytes ≡ record_size form * count
+  size = records_length form 1 lines valid ∙ ap (λ (n : ℕ). record_size form * n) (records_count form [] 1 count)
 
-  begins : BeginsWithRecords form.Sha1 lines bytes
-  begins = record { valid = valid; spelled = take_all (28 * length lines) bytes (let long = records_length form.Sha1 1 lines valid in omega (arith, long)) }
+  begins : BeginsWithRecords form lines bytes
+  begins = record { valid = valid; spelled = take_all (record_size form * length lines) bytes (let long = records_length form 1 lines valid in omega (arith, long)) }
 
   whole : IsPlanWhole (λ (name : FileName). bytes) plan
-  whole = (of.written (λ (name : FileName). bytes) lines (records_count [] 1 count) begins).0
+  whole = (of.written (λ (name : FileName). bytes) lines (records_count form [] 1 count) begins).0
 
-  by : (s : Source) → IsWholeIn plan.bytes (λ (name : FileName). bytes) s → SourceEndsBy (28 * count) s
+  by : (s : Source) → IsWholeIn plan.bytes (λ (name : FileName). bytes) s → SourceEndsBy (record_size form * count) s
   by (Bytes offset long) is = tt
   by (Range range) is = (let is_ : range.offset + range.count ≤ length bytes = is in omega (arith, is_, size))
 
-pub map_within : (root : Root) (map : FileName) (count : ℕ) (gone : List ℕ) (plan : Plan) → map ≡ map_file_of root → root.map.length ≡ 28 * count → PlansMap form.Sha1 map count gone plan → IsPlanWithin root plan
-map_within root map count gone plan map_is long of = λ j s found.
+pub map_within : (form : Form) (root : Root) (map : FileName) (count : ℕ) (gone : List ℕ) (plan : Plan) → map ≡ map_file_of root → root.map.length ≡ record_size form * count → PlansMap form map count gone plan → IsPlanWithin root plan
+map_within form root map count gone plan map_is long of = λ j s found.
     source_within root (map_file_of root) s root.map.length (subst (λ (f : FileName). IsSourceFrom f s) map_is (of.from j s found)) (sym (counts_all root kind.Map 0 refl))
-    (subst (λ (n : ℕ). SourceEndsBy n s) (sym long) (map_up map count gone plan of j s found))
+    (subst (λ (n : ℕ). SourceEndsBy n s) (sym long) (map_up form map count gone plan of j s found))

@@ -5,11 +5,12 @@ use Rattle.std.specs.List.{AllByRecursion}
 use Rattle.std.proofs.Common.{◌∙◌, sym, ap, subst, inl, inr, arith}
 use Rattle.std.proofs.lemmas.Bool.{cases_lt}
 use Rattle.std.proofs.lemmas.Option.{same_Some}
-use Rattle.arch_base.specs.declared.ids.Form.TheVariants as form
+use Rattle.arch_base.specs.declared.ids.Form.{Form}
 use Rattle.arch_model.proofs.ValidArchives.{all_weaker}
 use Rattle.disk_model.specs.declared.name.FileKind.TheVariants as kind
 use Rattle.disk_model.specs.declared.name.FileName.{FileName}
 use Rattle.disk_model.specs.Disk.{Content}
+use Rattle.disk_model.specs.Sizes.{record_size}
 use Rattle.root_slots.specs.declared.root.Root.{Root}
 use Rattle.root_slots.specs.Valid.{no_place}
 use Rattle.root_change.specs.Rewriting.{Plan, place_planned, plan_of}
@@ -30,8 +31,8 @@ use Rattle.store_planning.proofs.Ranges.{epoch_within, map_within}
 use Rattle.store_planning.proofs.Taking.{closed_in}
 
 -- Before the first entry.
-pub taken_none : (root : Root) → IsTakenUpTo root 0 0 no_planning
-taken_none root = record {
+pub taken_none : (form : Form) (root : Root) → IsTakenUpTo root 0 0 (no_planning form)
+taken_none form root = record {
   lie = tt;
   ranges = λ i p here. absurd (let wrong : None ≡ Some p = here in cc);
   later = λ x high. refl;
@@ -125,14 +126,14 @@ pub record IsReadyAt (root : Root) (n at : ℕ) (mid : Planning) (plan : Planned
 
 -- The plan of an entry's file, whatever was current.
 module _ (root : Root) (epoch from n at : ℕ) (old : Planning) (file : FileName) (file_is : file ≡ epoch_file_of root n) (least : epoch ≤ n) (after : epoch ≡ n → from ≤ at) (taken : IsTakenUpTo root epoch from old) where
-  starts : (mid : Planning) → mid.entries ≡ [] → mid.plans ≡ [] → IsReadyAt root n at mid (epoch_start file)
+  starts : (mid : Planning) → mid.entries ≡ [] → mid.plans ≡ [] → IsReadyAt root n at mid (epoch_start old.form file)
   starts mid none no_plans = record {
     lie = subst (LieFrom 0 0) (sym none) tt;
     ranges = λ i p here. absurd (let wrong : None ≡ Some p = ap (λ (l : List Plan). slice_get l i) (sym no_plans) ∙ here in cc);
     later = λ x high. ap (λ (l : List Plan). plan_of l kind.Epoch x) no_plans;
     file = file_is;
     planned = tt;
-    ends = subst (AllByRecursion (EndsInPlan root mid.plans (epoch_start file) n at)) (sym none) tt;
+    ends = subst (AllByRecursion (EndsInPlan root mid.plans (epoch_start old.form file) n at)) (sym none) tt;
   }
 
   same : (c : Planned) → EndByCurrent root old epoch from (Some c) → c.file ≡ file → IsReadyAt root n at (without_current old) c
@@ -155,14 +156,14 @@ module _ (root : Root) (epoch from n at : ℕ) (old : Planning) (file : FileName
             let ends = is.1 in
             inr (is.0 ∙ n_is, omega (arith, ends, more), is.2)
 
-  next : (c : Planned) → EndByCurrent root old epoch from (Some c) → (c.file ≢ file) → (mid : Planning) → ClosesEpoch (without_current old) c mid → IsReadyAt root n at mid (epoch_start file)
+  next : (c : Planned) → EndByCurrent root old epoch from (Some c) → (c.file ≢ file) → (mid : Planning) → ClosesEpoch (without_current old) c mid → IsReadyAt root n at mid (epoch_start old.form file)
   next c current apart mid closes = record {
     lie = subst (LieFrom 0 0) (sym (closed_same (without_current old) closes.0 mid closes.3)) taken.lie;
     ranges = shut_so.ranges;
     later = λ x high. (let low = below in shut_so.later x (omega (arith, high, low)));
     file = file_is;
     planned = tt;
-    ends = all_weaker (EndsUpTo root mid.plans epoch) (EndsInPlan root mid.plans (epoch_start file) n at) mid.entries (λ e so. inl ((let most = so.0 in let low = below in omega (arith, most, low)), so.1)) shut_so.ends;
+    ends = all_weaker (EndsUpTo root mid.plans epoch) (EndsInPlan root mid.plans (epoch_start old.form file) n at) mid.entries (λ e so. inl ((let most = so.0 in let low = below in omega (arith, most, low)), so.1)) shut_so.ends;
   } where
     shut_so : IsShutIn root epoch mid
     shut_so = shut root epoch from old c taken.ranges taken.later taken.inside current mid closes
@@ -236,12 +237,12 @@ kept_on old file e content mid new plan opens keeps = λ root epoch from file_is
     })
 
 -- All entries were taken: the current epoch is closed, and the map is planned.
-module _ (root : Root) (old : Planning) (map : FileName) (count : ℕ) (new : Planning) (finishes : FinishesPlans old map count new) (map_is : map ≡ map_file_of root) (long : root.map.length ≡ 28 * count) (are : ArePlansIn root old) (taken : IsTakenToOffset root old) where
+module _ (root : Root) (old : Planning) (map : FileName) (count : ℕ) (new : Planning) (finishes : FinishesPlans old map count new) (map_is : map ≡ map_file_of root) (long : root.map.length ≡ record_size root.config.form * count) (are : ArePlansIn root old) (taken : IsTakenToOffset root old) where
   abbrev mid : Planning
   mid = finishes.0
 
-  of : PlansMap form.Sha1 map count mid.gone finishes.2.0
-  of = finishes.2.1
+  of : PlansMap root.config.form map count mid.gone finishes.2.0
+  of = subst (λ (g : Form). PlansMap g map count mid.gone finishes.2.0) are.form finishes.2.1
 
   plans_are : new.plans ≡ mid.plans ++ finishes.2.0 ∷ []
   plans_are = ap (λ (p : Planning). p.plans) finishes.2.2.0
@@ -270,7 +271,7 @@ module _ (root : Root) (old : Planning) (map : FileName) (count : ℕ) (new : Pl
   so = all_shut old.current are.current taken.taken.ends finishes.1
 
   pub finished_within : AreWithin root new.plans
-  finished_within = λ i p here. each_plan (IsPlanWithin root) mid.plans finishes.2.0 so.within (map_within root map count mid.gone finishes.2.0 map_is long of) i p (ap (λ (l : List Plan). slice_get l i) (sym plans_are) ∙ here)
+  finished_within = λ i p here. each_plan (IsPlanWithin root) mid.plans finishes.2.0 so.within (map_within root.config.form root map count mid.gone finishes.2.0 map_is long of) i p (ap (λ (l : List Plan). slice_get l i) (sym plans_are) ∙ here)
 
   same_long : (x : ℕ) → length_planned root mid.plans x ≡ length_planned root new.plans x
   same_long x =

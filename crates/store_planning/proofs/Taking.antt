@@ -5,7 +5,6 @@ use Rattle.std.specs.Str.{bytes_eq}
 use Rattle.std.proofs.Common.{◌∙◌, sym, ap, subst, inl, inr, arith}
 use Rattle.arch_base.specs.declared.ids.ObjectId.{ObjectId}
 use Rattle.arch_base.specs.declared.ids.Form.{Form}
-use Rattle.arch_base.specs.declared.ids.Form.TheVariants as form
 use Rattle.arch_base.specs.Ids.{id_eq}
 use Rattle.disk_model.specs.Disk.{Content, WhereTold}
 use Rattle.disk_model.specs.declared.name.FileName.{FileName}
@@ -29,8 +28,8 @@ use Rattle.store_planning.proofs.Planned.{each_plan, has_next, opened, seen_is, 
 use Rattle.store_finding.proofs.TextBytes.{one_of_all}
 
 -- An entry has the text exactly if it has the blob id.
-abbrev pub Picks : ObjectId → List ℕ → Entry → Type 0
-Picks blob text e = id_eq blob (blob_id_of form.Sha1 e.text) ≡ bytes_eq text e.text
+abbrev pub Picks : Form → ObjectId → List ℕ → Entry → Type 0
+Picks form blob text e = id_eq blob (blob_id_of form e.text) ≡ bytes_eq text e.text
 
 -- An entry was left out, or stays.
 pub take_left : (old : Planning) (file : FileName) (stored : StoredEntry) (blob : ObjectId) (content : Option Content) (mid new : Planning) (plan : Planned) → OpensPlan old file mid plan → id_eq blob stored.seen.blob ≡ true → LeavesOut mid plan stored new → PlansNext old file stored blob content new (Ok tt)
@@ -38,10 +37,10 @@ take_left old file stored blob None mid new plan opens test left = tt
 take_left old file stored blob (Some k) mid new plan opens test left = λ v cache a es rest e text own is stored_is file_is picks up.
     let open_ = opened k v cache a own es rest e is text old up file file_is old.current up.current mid plan opens in
     let after = left.0 in
-    let blob_is : id_eq blob stored.seen.blob ≡ id_eq blob (blob_id_of form.Sha1 e.text) = ap (λ (s : StoredEntry). id_eq blob s.seen.blob) stored_is in
-    let this : bytes_eq text e.text ≡ true = sym (one_of_all (Picks blob text) es e rest (subst (AllByRecursion (Picks blob text)) is picks)) ∙ (sym blob_is ∙ test) in
-    let next : HasNext plan.form (texts_in k) plan.file (in_files (in_epoch es e.epoch)) (in_file e) = (subst (λ (g : Form). HasNext g (texts_in k) plan.file (in_files (in_epoch es e.epoch)) (in_file e)) (sym open_.form_is) (subst (λ (f : FileName). HasNext form.Sha1 (texts_in k) f (in_files (in_epoch es e.epoch)) (in_file e)) (sym open_.file) (has_next k v cache a own es rest e is text))) in
-    let seen_so : stored.seen ≡ seen_after plan.form (in_files (in_epoch es e.epoch)) (in_file e) = ap (λ (s : StoredEntry). s.seen) stored_is ∙ (seen_is es e ∙ ap (λ (g : Form). seen_after g (in_files (in_epoch es e.epoch)) (in_file e)) (sym open_.form_is)) in
+    let blob_is : id_eq blob stored.seen.blob ≡ id_eq blob (blob_id_of a.config.form e.text) = ap (λ (s : StoredEntry). id_eq blob s.seen.blob) stored_is in
+    let this : bytes_eq text e.text ≡ true = sym (one_of_all (Picks a.config.form blob text) es e rest (subst (AllByRecursion (Picks a.config.form blob text)) is picks)) ∙ (sym blob_is ∙ test) in
+    let next : HasNext plan.form (texts_in k) plan.file (in_files (in_epoch es e.epoch)) (in_file e) = (subst (λ (g : Form). HasNext g (texts_in k) plan.file (in_files (in_epoch es e.epoch)) (in_file e)) (sym open_.form_is) (subst (λ (f : FileName). HasNext a.config.form (texts_in k) f (in_files (in_epoch es e.epoch)) (in_file e)) (sym open_.file) (has_next k v cache a own es rest e is text))) in
+    let seen_so : stored.seen ≡ seen_after plan.form (in_files (in_epoch es e.epoch)) (in_file e) = ap (λ (s : StoredEntry). s.seen) stored_is ∙ (seen_is a.config.form es e ∙ ap (λ (g : Form). seen_after g (in_files (in_epoch es e.epoch)) (in_file e)) (sym open_.form_is)) in
     let planned_so = left.1 (texts_in k) (in_files (in_epoch es e.epoch)) (in_files (in_epoch (without_text es text) e.epoch)) (in_file e) open_.is next seen_so in
     let so = up_left k v cache a own es rest e is text mid plan open_ after left.2 left.6 this planned_so in
     let new_is : new ≡ with_entries mid mid.entries (gone_with e.kind mid.gone e.number) after = left.3 ∙ ap (λ (s : StoredEntry). with_entries mid mid.entries (gone_with s.seen.kind mid.gone s.number) after) stored_is in
@@ -51,15 +50,15 @@ pub take_kept : (old : Planning) (file : FileName) (stored : StoredEntry) (blob 
 take_kept old file stored blob None mid new plan opens test keeps = tt
 take_kept old file stored blob (Some k) mid new plan opens test keeps = λ v cache a es rest e text own is stored_is file_is picks up.
     let open_ = opened k v cache a own es rest e is text old up file file_is old.current up.current mid plan opens in
-    let blob_is : id_eq blob stored.seen.blob ≡ id_eq blob (blob_id_of form.Sha1 e.text) = ap (λ (s : StoredEntry). id_eq blob s.seen.blob) stored_is in
-    let other : bytes_eq text e.text ≡ false = sym (one_of_all (Picks blob text) es e rest (subst (AllByRecursion (Picks blob text)) is picks)) ∙ (sym blob_is ∙ test) in
-    let next : HasNext plan.form (texts_in k) plan.file (in_files (in_epoch es e.epoch)) (in_file e) = (subst (λ (g : Form). HasNext g (texts_in k) plan.file (in_files (in_epoch es e.epoch)) (in_file e)) (sym open_.form_is) (subst (λ (f : FileName). HasNext form.Sha1 (texts_in k) f (in_files (in_epoch es e.epoch)) (in_file e)) (sym open_.file) (has_next k v cache a own es rest e is text))) in
-    let seen_so : stored.seen ≡ seen_after plan.form (in_files (in_epoch es e.epoch)) (in_file e) = ap (λ (s : StoredEntry). s.seen) stored_is ∙ (seen_is es e ∙ ap (λ (g : Form). seen_after g (in_files (in_epoch es e.epoch)) (in_file e)) (sym open_.form_is)) in
+    let blob_is : id_eq blob stored.seen.blob ≡ id_eq blob (blob_id_of a.config.form e.text) = ap (λ (s : StoredEntry). id_eq blob s.seen.blob) stored_is in
+    let other : bytes_eq text e.text ≡ false = sym (one_of_all (Picks a.config.form blob text) es e rest (subst (AllByRecursion (Picks a.config.form blob text)) is picks)) ∙ (sym blob_is ∙ test) in
+    let next : HasNext plan.form (texts_in k) plan.file (in_files (in_epoch es e.epoch)) (in_file e) = (subst (λ (g : Form). HasNext g (texts_in k) plan.file (in_files (in_epoch es e.epoch)) (in_file e)) (sym open_.form_is) (subst (λ (f : FileName). HasNext a.config.form (texts_in k) f (in_files (in_epoch es e.epoch)) (in_file e)) (sym open_.file) (has_next k v cache a own es rest e is text))) in
+    let seen_so : stored.seen ≡ seen_after plan.form (in_files (in_epoch es e.epoch)) (in_file e) = ap (λ (s : StoredEntry). s.seen) stored_is ∙ (seen_is a.config.form es e ∙ ap (λ (g : Form). seen_after g (in_files (in_epoch es e.epoch)) (in_file e)) (sym open_.form_is)) in
     let kept = keeps.kept (in_files (in_epoch es e.epoch)) (in_files (in_epoch (without_text es text) e.epoch)) (in_file e) open_.is next seen_so in
     let made = kept_anew stored keeps.seen in
-    let made_seen : keeps.seen ≡ (stored_at (without_text es text) e).seen =
-    kept.0 ∙ (ap (λ (g : Form). seen_after g (in_files (in_epoch (without_text es text) e.epoch)) (in_file e)) open_.form_is ∙ sym (seen_is (without_text es text) e)) in
-    let made_is : made ≡ stored_at (without_text es text) e = λ i. record { number = (ap (λ (s : StoredEntry). s.number) stored_is) i; epoch = (ap (λ (s : StoredEntry). s.epoch) stored_is) i; seen = made_seen i } in
+    let made_seen : keeps.seen ≡ (stored_at a.config.form (without_text es text) e).seen =
+    kept.0 ∙ (ap (λ (g : Form). seen_after g (in_files (in_epoch (without_text es text) e.epoch)) (in_file e)) open_.form_is ∙ sym (seen_is a.config.form (without_text es text) e)) in
+    let made_is : made ≡ stored_at a.config.form (without_text es text) e = λ i. record { number = (ap (λ (s : StoredEntry). s.number) stored_is) i; epoch = (ap (λ (s : StoredEntry). s.epoch) stored_is) i; seen = made_seen i } in
     subst (IsPlannedUpTo (texts_in k) v.root a (es ++ e ∷ []) text) (sym keeps.new_is) (up_kept k v cache a own es rest e is text mid plan open_ keeps.after keeps.file keeps.form made other made_is kept.1)
 
 -- No damage is found on an archive's disk.
@@ -72,8 +71,8 @@ pub take_refused : (old : Planning) (file : FileName) (stored : StoredEntry) (bl
 take_refused old file stored blob None mid new plan refusal opens refuses = tt
 take_refused old file stored blob (Some k) mid new plan refusal opens refuses = λ v cache a es rest e text own is stored_is file_is picks up.
     let open_ = opened k v cache a own es rest e is text old up file file_is old.current up.current mid plan opens in
-    let next : HasNext plan.form (texts_in k) plan.file (in_files (in_epoch es e.epoch)) (in_file e) = (subst (λ (g : Form). HasNext g (texts_in k) plan.file (in_files (in_epoch es e.epoch)) (in_file e)) (sym open_.form_is) (subst (λ (f : FileName). HasNext form.Sha1 (texts_in k) f (in_files (in_epoch es e.epoch)) (in_file e)) (sym open_.file) (has_next k v cache a own es rest e is text))) in
-    let seen_so : stored.seen ≡ seen_after plan.form (in_files (in_epoch es e.epoch)) (in_file e) = ap (λ (s : StoredEntry). s.seen) stored_is ∙ (seen_is es e ∙ ap (λ (g : Form). seen_after g (in_files (in_epoch es e.epoch)) (in_file e)) (sym open_.form_is)) in
+    let next : HasNext plan.form (texts_in k) plan.file (in_files (in_epoch es e.epoch)) (in_file e) = (subst (λ (g : Form). HasNext g (texts_in k) plan.file (in_files (in_epoch es e.epoch)) (in_file e)) (sym open_.form_is) (subst (λ (f : FileName). HasNext a.config.form (texts_in k) f (in_files (in_epoch es e.epoch)) (in_file e)) (sym open_.file) (has_next k v cache a own es rest e is text))) in
+    let seen_so : stored.seen ≡ seen_after plan.form (in_files (in_epoch es e.epoch)) (in_file e) = ap (λ (s : StoredEntry). s.seen) stored_is ∙ (seen_is a.config.form es e ∙ ap (λ (g : Form). seen_after g (in_files (in_epoch es e.epoch)) (in_file e)) (sym open_.form_is)) in
     not_damaged (texts_in k) v.root a es e text file new refusal (refuses (in_files (in_epoch es e.epoch)) (in_files (in_epoch (without_text es text) e.epoch)) (in_file e) open_.is next seen_so)
 
 -- What keeping an entry says of a refusal.
@@ -92,14 +91,27 @@ opened_file old file None mid plan by = ap (λ (c : Planned). c.file) by.1
 opened_file old file (Some c) mid plan (inl here) = ap (λ (d : Planned). d.file) here.1 ∙ here.0
 opened_file old file (Some c) mid plan (inr next) = ap (λ (d : Planned). d.file) next.1
 
-pub take_damage : (old : Planning) (file : FileName) (stored : StoredEntry) (content : Option Content) (mid : Planning) (plan : Planned) (refusal : WalkRefusal) → OpensPlan old file mid plan → plan.form ≡ form.Sha1 → TellsLack plan.form plan.file stored.seen content refusal → DamageBy (refusal_in file refusal) (IsDamageOf file stored content)
+-- Opening the plan of a file leaves the form.
+pub closed_form : (old : Planning) (finished : Option Plan) (new : Planning) → ClosesAs old finished new → new.form ≡ old.form
+closed_form old None new is = ap (λ (p : Planning). p.form) is
+closed_form old (Some plan) new is = ap (λ (p : Planning). p.form) is.0
+
+form_by : (old : Planning) (file : FileName) (current : Option Planned) (mid : Planning) (plan : Planned) → OpensBy old file current mid plan → mid.form ≡ old.form
+form_by old file None mid plan by = ap (λ (p : Planning). p.form) by.0
+form_by old file (Some c) mid plan (inl here) = ap (λ (p : Planning). p.form) here.2
+form_by old file (Some c) mid plan (inr next) = closed_form (without_current old) next.2.0 mid next.2.3
+
+pub opened_form : (old : Planning) (file : FileName) (mid : Planning) (plan : Planned) → OpensPlan old file mid plan → mid.form ≡ old.form
+opened_form old file mid plan opens = form_by old file old.current mid plan opens
+
+pub take_damage : (old : Planning) (file : FileName) (stored : StoredEntry) (content : Option Content) (mid : Planning) (plan : Planned) (refusal : WalkRefusal) → OpensPlan old file mid plan → plan.form ≡ mid.form → TellsLack plan.form plan.file stored.seen content refusal → DamageBy (refusal_in file refusal) (IsDamageOf old.form file stored content)
 take_damage old file stored content mid plan DiskFault opens form_is lack = tt
 take_damage old file stored content mid plan NoMemory opens form_is lack = tt
 take_damage old file stored content mid plan (Damaged at) opens form_is lack = (
   refl,
   lack.0,
-  subst (λ (f : FileName). WhereTold (LacksText form.Sha1 f stored.seen) content) (opened_file old file old.current mid plan opens)
-      (subst (λ (g : Form). WhereTold (LacksText g plan.file stored.seen) content) form_is lack.1),
+  subst (λ (f : FileName). WhereTold (LacksText old.form f stored.seen) content) (opened_file old file old.current mid plan opens)
+      (subst (λ (g : Form). WhereTold (LacksText g plan.file stored.seen) content) (form_is ∙ opened_form old file mid plan opens) lack.1),
 )
 
 -- Opening the plan of a file leaves what is kept of the entries.
@@ -160,7 +172,7 @@ opened_in root old file (Some c) mid plan each in_ (inr next) = (closed_in root 
 taken_in : (root : Root) (old : Planning) (file : FileName) (mid : Planning) (plan after : Planned) (n : ℕ) (entries : List StoredEntry) (gone : List ℕ) → ArePlansIn root old → OpensPlan old file mid plan → file ≡ epoch_file_of root n → n ≤ 63 → after.file ≡ plan.file → ArePlansIn root (with_entries mid entries gone after)
 taken_in root old file mid plan after n entries gone are opens file_is low same =
     let so = opened_in root old file old.current mid plan are.each are.current opens in
-    record { each = so.0; current = (n, low, same ∙ (so.1 ∙ file_is)) }
+    record { each = so.0; current = (n, low, same ∙ (so.1 ∙ file_is)); form = opened_form old file mid plan opens ∙ are.form }
 
 pub kept_in : (root : Root) (old : Planning) (file : FileName) (stored : StoredEntry) (content : Option Content) (mid new : Planning) (plan : Planned) → ArePlansIn root old → OpensPlan old file mid plan → file ≡ epoch_file_of root stored.epoch → stored.epoch ≤ 63 → PlansEntry mid plan stored content new → ArePlansIn root new
 kept_in root old file stored content mid new plan are opens file_is low keeps =

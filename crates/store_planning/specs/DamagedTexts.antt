@@ -1,6 +1,6 @@
 -- The damage that a purge or an edit tells: which file it is in, and where.
 use Rattle.std.specs.Prelude.{◌≡◌, ◌⊎◌, ◌<◌, ℕ, length, slice_get, Option, Some, Result, Ok, Err}
-use Rattle.arch_base.specs.declared.ids.Form.TheVariants as form
+use Rattle.arch_base.specs.declared.ids.Form.{Form}
 use Rattle.disk_model.specs.declared.name.FileKind.{FileKind}
 use Rattle.disk_model.specs.declared.name.FileName.{FileName}
 use Rattle.disk_model.specs.Disk.{Content, WhereTold, bytes_of}
@@ -51,8 +51,8 @@ abbrev pub IfDamaged : {T : Type 0} → Result T StoreRefusal → (FileName → 
 IfDamaged (Ok given) P = Unit {0}
 IfDamaged (Err why) P = DamageBy why P
 
--- The damage of an entry in a file: the file, the entry's offset, and that its text isn't in its place
--- where the disk tells its content.
-abbrev pub IsDamageOf : FileName → StoredEntry → Option Content → FileName → ℕ → Type 0
-IsDamageOf own entry content file at = (file ≡ own) × (at ≡ entry.seen.at)
-    × WhereTold (LacksText form.Sha1 own entry.seen) content
+-- The damage of an entry of a form in a file: the file, the entry's offset, and that its text isn't in
+-- its place where the disk tells its content.
+abbrev pub IsDamageOf : Form → FileName → StoredEntry → Option Content → FileName → ℕ → Type 0
+IsDamageOf form own entry content file at = (file ≡ own) × (at ≡ entry.seen.at)
+    × WhereTold (LacksText form own entry.seen) content

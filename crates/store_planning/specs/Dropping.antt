@@ -14,7 +14,8 @@ use Rattle.store_planning.specs.declared.next.End.{End}
 -- The epoch of the last entry of an archive, or 0, and its last commit.
 pub record IsStoreEnd (a : Archive) (end_ : End) : Type 0 where
   pub epoch : end_.epoch ≡ last_epoch a.entries
-  pub parent : end_.parent ≡ last_commit None (in_epoch a.entries (last_epoch a.entries))
+  pub parent : end_.parent
+      ≡ last_commit a.config.form None (in_epoch a.entries (last_epoch a.entries))
 
 -- An error tells of no damage.
 abbrev pub IsUndamagedStore : StoreRefusal → Type 0

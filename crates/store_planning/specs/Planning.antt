@@ -3,7 +3,7 @@ use Rattle.std.specs.Prelude.{◌≡◌, ◌≢◌, ◌⊎◌, ◌+◌, ◌-◌,
 use Rattle.std.specs.List.{AllByRecursion, AllZip, list_any}
 use Rattle.std.specs.Str.{bytes_eq}
 use Rattle.arch_base.specs.declared.ids.ObjectId.{ObjectId}
-use Rattle.arch_base.specs.declared.ids.Form.TheVariants as form
+use Rattle.arch_base.specs.declared.ids.Form.{Form}
 use Rattle.arch_base.specs.Ids.{id_eq}
 use Rattle.disk_model.specs.declared.name.FileKind.{FileKind}
 use Rattle.disk_model.specs.declared.name.FileKind.TheVariants as kind
@@ -75,7 +75,7 @@ pub record PlansWithout (root : Root) (cache : List ℕ) (a : Archive) (text : L
 -- written anew, with a record for each number below this one.
 pub record IsReadyPlan (root : Root) (plans : List Plan) (next : ℕ) : Type 0 where
   pub plans_may : MayCarryAll root plans
-  pub map : MapFits root plans next
+  pub map : MapFits root plans next root.config.form
   pub map_plan : Plan
   pub map_is : plan_of plans kind.Map 0 ≡ Some map_plan
   pub map_anew : map_plan.target ≡ Anew
@@ -108,9 +108,9 @@ pub record PlansPurge (v : StoreState) (blob : ObjectId) (entries : List StoredE
 -- kept of the other entries, is that of the archive without the text.
 abbrev pub PlansOwn : StoreState → ObjectId → List StoredEntry → List Plan → Option Content → Type 0
 PlansOwn v blob entries plans content = (a : Archive) (cache text : List ℕ)
-    → IsStoreWith v cache a content → blob_id_of form.Sha1 text ≡ blob → IsMessageText a text
+    → IsStoreWith v cache a content → blob_id_of a.config.form text ≡ blob → IsMessageText a text
     → PlansWithout v.root cache a text plans
-    × (entries ≡ stored_after [] (without_text a.entries text))
+    × (entries ≡ stored_after a.config.form [] (without_text a.entries text))
 
 -- Planning finds no damage on a store's own disk.
 abbrev pub PlansUndamaged : {T : Type 0} → StoreState → Result T StoreRefusal → Option Content → Type 0
@@ -124,33 +124,34 @@ gone_of (e ∷ es) text = if is_message e.kind && bytes_eq text e.text then e.nu
     else gone_of es text
 
 -- What a planner holds: the plans of epochs that are closed, what is kept of the entries that stay, the
--- numbers of the messages that don't, and the plan of the current epoch.
+-- numbers of the messages that don't, the plan of the current epoch, and the form of the archive.
 pub record Planning : Type 0 where
   pub plans : List Plan
   pub entries : List StoredEntry
   pub gone : List ℕ
   pub current : Option Planned
+  pub form : Form
 
--- A planner before the first entry.
-abbrev pub no_planning : Planning
-no_planning = record { plans = []; entries = []; gone = []; current = None }
+-- A planner of an archive of a form, before the first entry.
+abbrev pub no_planning : Form → Planning
+no_planning form = record { plans = []; entries = []; gone = []; current = None; form = form }
 
 -- Each of these plans is valid.
 abbrev pub AreValid : List Plan → Type 0
 AreValid plans = (i : ℕ) (plan : Plan) → slice_get plans i ≡ Some plan → IsPlan plan
 
--- The plan of the current epoch is of its form.
-abbrev pub HasForm : Option Planned → Type 0
-HasForm None = Unit {0}
-HasForm (Some c) = c.form ≡ form.Sha1
+-- The plan of the current epoch is of a form.
+abbrev pub HasForm : Form → Option Planned → Type 0
+HasForm form None = Unit {0}
+HasForm form (Some c) = c.form ≡ form
 
 -- What always holds of a planner: its plans are valid, each is that of another part, the numbers rise
--- up to this one, and the current epoch has its form.
+-- up to this one, and the current epoch has the planner's form.
 pub record IsPlanning (top : ℕ) (p : Planning) : Type 0 where
   pub apart : AreApart p.plans
   pub valid : AreValid p.plans
   pub gone : RisesUpTo 1 top p.gone
-  pub form : HasForm p.current
+  pub form : HasForm p.form p.current
 
 -- The current epoch is none of those that are planned.
 abbrev pub PlansApart : List Plan → Option Planned → Type 0
@@ -181,10 +182,11 @@ is_anew p epoch = is_some (plan_of p.plans kind.Epoch epoch) || is_changed p.cur
 abbrev pub ChangesNext : Planning → ℕ → Bool → Planning → Type 0
 ChangesNext old number leaves new = (e : ℕ) → is_anew new e ≡ (is_anew old e || (leaves && number == e))
 
--- All epochs that are planned, and the current one, are those of a root.
+-- All epochs that are planned, and the current one, are those of a root, and so is the form.
 pub record ArePlansIn (root : Root) (p : Planning) : Type 0 where
   pub each : (i : ℕ) (plan : Plan) → slice_get p.plans i ≡ Some plan → IsPlanIn root plan
   pub current : IsFileIn root p.current
+  pub form : p.form ≡ root.config.form
 
 -- A plan is one of a part, and its ranges are of the part's file by a root.
 abbrev pub PlanIsFrom : Root → Plan → Type 0
@@ -247,29 +249,30 @@ abbrev pub KeepsBut : Bool → List StoredEntry → StoredEntry → List StoredE
 KeepsBut true old e new = new ≡ old
 KeepsBut false old e new = (made : StoredEntry) × KeptOf e made × (new ≡ old ++ made ∷ [])
 
--- The current epoch is planned, where these are its entries so far.
-abbrev pub IsCurrent : Texts → Root → List Entry → List ℕ → Option Planned → Type 0
-IsCurrent texts root es text None = es ≡ []
-IsCurrent texts root es text (Some c) = (c.file ≡ epoch_file_of root (last_epoch es))
+-- The current epoch is planned in a form, where these are its entries so far.
+abbrev pub IsCurrent : Form → Texts → Root → List Entry → List ℕ → Option Planned → Type 0
+IsCurrent form texts root es text None = es ≡ []
+IsCurrent form texts root es text (Some c) = (c.file ≡ epoch_file_of root (last_epoch es))
     × IsPlanned texts (in_files (in_epoch es (last_epoch es)))
-    (in_files (in_epoch (without_text es text) (last_epoch es))) c × (c.form ≡ form.Sha1)
+    (in_files (in_epoch (without_text es text) (last_epoch es))) c × (c.form ≡ form)
 
 -- Epochs before the current one are planned whole, and none after it.
 pub record IsPlannedUpTo (texts : Texts) (root : Root) (a : Archive) (es : List Entry)
     (text : List ℕ) (p : Planning) : Type 0 where
-  pub entries : p.entries ≡ stored_after [] (without_text es text)
+  pub entries : p.entries ≡ stored_after a.config.form [] (without_text es text)
   pub gone : p.gone ≡ gone_of es text
   pub before : (e : ℕ) → e < last_epoch es → planned texts (plan_of p.plans kind.Epoch e) (bytes_in a e)
       ≡ bytes_in (without_entries a text) e
   pub after : (e : ℕ) → last_epoch es ≤ e → plan_of p.plans kind.Epoch e ≡ None
   pub map : (n : ℕ) → plan_of p.plans kind.Map n ≡ None
   pub whole : (i : ℕ) (plan : Plan) → slice_get p.plans i ≡ Some plan → IsPlanWhole texts plan
-  pub current : IsCurrent texts root es text p.current
+  pub current : IsCurrent a.config.form texts root es text p.current
+  pub form : p.form ≡ a.config.form
 
 -- Of the entries of an archive those with a blob id are those with a text.
 abbrev pub PicksText : Archive → ObjectId → List ℕ → Type 0
 PicksText a blob text = AllByRecursion (λ (e : Entry).
-    id_eq blob (blob_id_of form.Sha1 e.text) ≡ bytes_eq text e.text) a.entries
+    id_eq blob (blob_id_of a.config.form e.text) ≡ bytes_eq text e.text) a.entries
 
 -- After a call the entries of an archive up to this one are planned, where a text is left out. Nothing
 -- is damaged.
@@ -285,7 +288,7 @@ abbrev pub PlansNext : Planning → FileName → StoredEntry → ObjectId → Op
     → Result Unit StoreRefusal → Type 0
 PlansNext old file stored blob content new result = WhereTold (λ (k : Content).
     (v : StoreState) (cache : List ℕ) (a : Archive) (es rest : List Entry) (e : Entry) (text : List ℕ)
-    → IsDiskWith v cache a k → a.entries ≡ es ++ e ∷ rest → stored ≡ stored_at es e
+    → IsDiskWith v cache a k → a.entries ≡ es ++ e ∷ rest → stored ≡ stored_at a.config.form es e
     → file ≡ epoch_file_of v.root e.epoch → PicksText a blob text
     → IsPlannedUpTo (texts_in k) v.root a es text old
     → GivesNext (texts_in k) v.root a es e text new result) content
@@ -316,6 +319,7 @@ Pushes old plan new = (new ≡ record {
   entries = old.entries;
   gone = old.gone;
   current = old.current;
+  form = old.form;
 }) × (plan_of old.plans plan.kind plan.number ≡ None)
 
 -- The plan of an epoch whose entries have all been taken was added, if it loses one.
@@ -332,19 +336,26 @@ ClosesEpoch old epoch new = (finished : Option Plan) × FinishesPlan epoch finis
 
 -- A planner without a current epoch.
 abbrev pub without_current : Planning → Planning
-without_current p = record { plans = p.plans; entries = p.entries; gone = p.gone; current = None }
+without_current p = record {
+  plans = p.plans;
+  entries = p.entries;
+  gone = p.gone;
+  current = None;
+  form = p.form;
+}
 
--- The plan of an epoch before its first entry.
-abbrev pub epoch_start : FileName → Planned
-epoch_start file =
-    record { file = file; changed = None; end_ = 8; parent = None; form = form.Sha1 }
+-- The plan of an epoch of a form before its first entry.
+abbrev pub epoch_start : Form → FileName → Planned
+epoch_start form file =
+    record { file = file; changed = None; end_ = 8; parent = None; form = form }
 
 -- The plan of a file is the current one, or a new one, for which the current one is closed.
 abbrev pub OpensBy : Planning → FileName → Option Planned → Planning → Planned → Type 0
-OpensBy old file None new plan = (new ≡ without_current old) × (plan ≡ epoch_start file)
+OpensBy old file None new plan =
+    (new ≡ without_current old) × (plan ≡ epoch_start old.form file)
 OpensBy old file (Some c) new plan =
     ((c.file ≡ file) × (plan ≡ c) × (new ≡ without_current old))
-    ⊎ ((c.file ≢ file) × (plan ≡ epoch_start file) × ClosesEpoch (without_current old) c new)
+    ⊎ ((c.file ≢ file) × (plan ≡ epoch_start old.form file) × ClosesEpoch (without_current old) c new)
 
 -- The same by the current one of a planner.
 abbrev pub OpensPlan : Planning → FileName → Planning → Planned → Type 0
@@ -362,12 +373,18 @@ with_gone p e = record {
   entries = p.entries;
   gone = gone_with e.seen.kind p.gone e.number;
   current = p.current;
+  form = p.form;
 }
 
 -- A planner with other entries and numbers, and this as the current epoch.
 abbrev pub with_entries : Planning → List StoredEntry → List ℕ → Planned → Planning
-with_entries p entries gone plan =
-    record { plans = p.plans; entries = entries; gone = gone; current = Some plan }
+with_entries p entries gone plan = record {
+  plans = p.plans;
+  entries = entries;
+  gone = gone;
+  current = Some plan;
+  form = p.form;
+}
 
 -- An entry was left out of the plan of the current epoch, which is to be written anew.
 abbrev pub LeavesOut : Planning → Planned → StoredEntry → Planning → Type 0
@@ -419,7 +436,7 @@ ClosesLast old (Some c) mid = ClosesEpoch (without_current old) c mid
 -- added.
 abbrev pub FinishesPlans : Planning → FileName → ℕ → Planning → Type 0
 FinishesPlans old map count new = (mid : Planning) × ClosesLast old old.current mid
-    × ((plan : Plan) × PlansMap form.Sha1 map count mid.gone plan × Pushes mid plan new)
+    × ((plan : Plan) × PlansMap old.form map count mid.gone plan × Pushes mid plan new)
 
 -- So many entries of a store are planned, whatever archive its disk holds.
 abbrev pub PlansFirst : StoreState → ObjectId → ℕ → Planning → Content → Type 0
@@ -439,10 +456,10 @@ length_after root plans epoch =
 -- Where the next entry is written after what is planned of an archive.
 abbrev pub IsPlaceAfter : Root → Planning → NextPlace → Type 0
 IsPlaceAfter root p place = (b : Archive) → IsArchive b → root.config ≡ b.config
-    → p.entries ≡ stored_after [] b.entries
+    → p.entries ≡ stored_after b.config.form [] b.entries
     → ((e : ℕ) → e < epoch_count → length_after root p.plans e ≡ length (bytes_in b e))
     → (place.epoch ≡ new_epoch b) × (place.length ≡ length (bytes_in b place.epoch))
-    × (place.parent ≡ last_commit None (in_epoch b.entries place.epoch))
+    × (place.parent ≡ last_commit b.config.form None (in_epoch b.entries place.epoch))
 
 -- Plans write the parts of another archive with this next number, and this is what is kept of its
 -- entries.
@@ -451,7 +468,7 @@ pub record PlansArchive (root : Root) (cache : List ℕ) (a b : Archive) (p : Pl
   pub valid : IsArchive b
   pub config : b.config ≡ a.config
   pub next_is : b.next ≡ next
-  pub entries : p.entries ≡ stored_after [] b.entries
+  pub entries : p.entries ≡ stored_after b.config.form [] b.entries
   pub parts : (kind_ : FileKind) (number : ℕ)
       → rewritten root p.plans (parts_of a cache) kind_ number ≡ parts_of b [] kind_ number
   pub whole : (i : ℕ) (plan : Plan) → slice_get p.plans i ≡ Some plan
@@ -467,7 +484,7 @@ pub record PlansEdit (v : StoreState) (old : Planning) (text : List ℕ) (moment
   pub kind_is : entry.seen.kind ≡ Message
   pub number : entry.number ≡ v.root.next
   pub id : own_id text ≡ Some entry.seen.id
-  pub blob : entry.seen.blob ≡ blob_id_of form.Sha1 text
+  pub blob : entry.seen.blob ≡ blob_id_of v.root.config.form text
   pub content : entry.seen.content ≡ content_id_of text
   pub small : entry.epoch ≤ greatest_epoch
   pub piece : List ℕ
@@ -487,7 +504,7 @@ pub record PlansEdit (v : StoreState) (old : Planning) (text : List ℕ) (moment
 -- The entries that are kept are those that were planned, by the root of the plans.
 pub record KeepsPlanned (old : StoreState) (p : Planning) (next : ℕ) (new : StoreState) : Type 0 where
   pub entries : new.entries ≡ p.entries
-  pub root : IsRootAfter old.root p.plans next new.root
+  pub root : IsRootAfter old.root p.plans next old.root.config.form new.root
   pub slot : new.slot ≡ 1 - old.slot
 
 -- The plans, where that of the map has these bytes more.
@@ -504,4 +521,5 @@ AppendsRecord old line new = (new ≡ record {
   entries = old.entries;
   gone = old.gone;
   current = old.current;
+  form = old.form;
 }) × ((plan : Plan) × (plan_of old.plans kind.Map 0 ≡ Some plan))

@@ -2,7 +2,6 @@
 //! Reads the disk.
 ghost use Rattle.std.specs.Prelude.{◌≡◌, ◌+◌, ◌*◌, ◌≤◌, ◌++◌, [], ◌∷◌, Some, None, Err, IfErr, IfOk, OnOk};
 ghost use Rattle.arch_base.specs.Counts.{RoseIf};
-ghost use Rattle.arch_base.specs.declared.ids.Form.TheVariants as form;
 ghost use Rattle.arch_base.specs.Ids.{id_eq};
 ghost use Rattle.disk_model.specs.Sizes.{greatest_epoch, record_size};
 ghost use Rattle.root_slots.specs.declared.root.Root.{Root};
@@ -34,7 +33,7 @@ use store_finding::StoredEntry;
 /// What is planned of the entries of an archive so far, without those of a text.
 ///
 /// Its contract view is the plans, what is kept of the entries that stay, the numbers of the messages that
-/// don't, and the plan of the current epoch.
+/// don't, the plan of the current epoch, and the form of the archive.
 #[derive(Drop)]
 pub struct Planner {
     alloc: Global,
@@ -49,6 +48,8 @@ pub struct Planner {
     top: u32,
     /// The plan of the current epoch.
     current: Option<EpochPlan>,
+    /// The form of the archive, which each plan of an epoch and that of the map have.
+    form: Form,
 }
 
 impl Model for Planner {
@@ -62,6 +63,7 @@ impl Model for Planner {
       entries = p.entries.items;
       gone = p.gone;
       current = p.current;
+      form = p.form;
     } };
 
     ghost invariant = { λ p. IsPlanning p.top (record {
@@ -69,13 +71,14 @@ impl Model for Planner {
       entries = p.entries.items;
       gone = p.gone;
       current = p.current;
+      form = p.form;
     }) };
 }
 
 impl Planner {
-    /// Returns the plan of no entries.
-    pub fn new(alloc: Global) -> Planner
-        ensures { result ≡ no_planning }
+    /// Returns the plan of no entries, for an archive of a form.
+    pub fn new(alloc: Global, form: Form) -> Planner
+        ensures { result ≡ no_planning form }
     {
         Planner {
             alloc,
@@ -84,6 +87,7 @@ impl Planner {
             gone: MessageNumbers::new(alloc),
             top: 0,
             current: None,
+            form,
         }
     }
 
@@ -102,7 +106,8 @@ impl Planner {
         requires apart { PlansApart self.old.plans self.old.current }
         ensures taken { PlansNext self.old file entry.now blob.now (D.content disk.old) self.new
             result }
-        ensures damage { IfDamaged result (IsDamageOf file entry.now (D.content disk.old)) }
+        ensures damage { IfDamaged result (IsDamageOf self.old.form file entry.now
+            (D.content disk.old)) }
         // Whatever the disk holds.
         ensures kept { OnOk result (KeepsBut (id_eq blob.now entry.now.seen.blob)
             self.old.entries entry.now self.new.entries) }
@@ -129,7 +134,7 @@ impl Planner {
 
     /// Leaves an entry out of the current epoch, which is planned so far.
     fn leave_out(&mut self, plan: EpochPlan, entry: &StoredEntry) -> Result<(), NoMemory>
-        requires { plan.form ≡ form.Sha1 }
+        requires { plan.form ≡ self.old.form }
         ensures { OnOk result (LeavesOut self.old plan entry.now self.new) }
     {
         let mut plan = plan;
@@ -146,7 +151,7 @@ impl Planner {
         plan: EpochPlan,
         entry: &StoredEntry,
     ) -> Result<(), WalkRefusal>
-        requires form { plan.form ≡ form.Sha1 }
+        requires form { plan.form ≡ self.old.form }
         ensures kept { OnOk result (PlansEntry self.old plan entry.now (D.content disk.old) self.new) }
         ensures refused { IfErr result (λ refusal.
             RefusesPlanned plan entry.now (D.content disk.old) refusal) }
@@ -178,16 +183,16 @@ impl Planner {
     fn open(&mut self, file: FileName) -> Result<EpochPlan, NoMemory>
         requires { PlansApart self.old.plans self.old.current }
         ensures opened { IfOk result (OpensPlan self.old file self.new) }
-        ensures form { IfOk result (λ plan. plan.form ≡ form.Sha1) }
+        ensures form { IfOk result (λ plan. plan.form ≡ self.new.form) }
     {
         let Some(plan) = self.current.take() else {
-            return Ok(EpochPlan::new(file, Form::Sha1));
+            return Ok(EpochPlan::new(file, self.form));
         };
         if plan.file() == file {
             return Ok(plan);
         }
         self.close(plan)?;
-        Ok(EpochPlan::new(file, Form::Sha1))
+        Ok(EpochPlan::new(file, self.form))
     }
 
     /// Keeps the plan of an epoch whose entries have all been taken, if it loses one.
@@ -231,8 +236,8 @@ impl Planner {
         requires { InEpochs self.now.entries }
         ensures small { result.epoch ≤ greatest_epoch }
         ensures last { LieFrom 0 0 self.now.entries → AreUpToEpoch result.epoch self.now.entries }
-        ensures end { (b : Archive) → IsArchive b → self.now.entries ≡ stored_after [] b.entries
-            → IsStoreEnd b result }
+        ensures end { (b : Archive) → IsArchive b
+            → self.now.entries ≡ stored_after b.config.form [] b.entries → IsStoreEnd b result }
     {
         match self.entries.last() {
             None => End {
@@ -278,7 +283,7 @@ impl Planner {
         ensures finished { OnOk result (FinishesPlans self.old map count self.new) }
         // Whatever the disk holds.
         ensures ready { (root : Root) → IsRoot root → map ≡ map_file_of root
-            → root.map.length ≡ record_size form.Sha1 * count → ArePlansIn root self.old
+            → root.map.length ≡ record_size root.config.form * count → ArePlansIn root self.old
             → IsTakenToOffset root self.old → OnOk result
             (AreFrom root self.new.plans × AreAnew self.new.plans
             × IsReadyPlan root self.new.plans (count + 1)
@@ -289,7 +294,7 @@ impl Planner {
             // Not of an archive.
             return Err(NoMemory);
         }
-        let plan = plan_without(self.alloc, map, count, &self.gone, Form::Sha1)?;
+        let plan = plan_without(self.alloc, map, count, &self.gone, self.form)?;
         self.push(plan)?;
         Ok(())
     }
@@ -312,6 +317,7 @@ impl Planner {
           entries = self.old.entries;
           gone = self.old.gone;
           current = self.old.current;
+          form = self.old.form;
         }) }
         ensures valid { OnOk result (AreValid self.old.plans × AreValid self.new.plans) }
     {
@@ -344,6 +350,7 @@ impl Planner {
           entries = self.old.entries ++ entry ∷ [];
           gone = self.old.gone;
           current = self.old.current;
+          form = self.old.form;
         }) }
     {
         self.entries.push(entry)?;
@@ -368,6 +375,7 @@ impl Planner {
             gone: _,
             top: _,
             current: _,
+            form: _,
         } = self;
         entries
     }

@@ -9,19 +9,19 @@ use Rattle.store_planning.proofs.planning.Planner.append.Goals as goal
 
 pub invariant_of-self : goal.invariant_of-self
 invariant_of-self c =
-    let inside : Planning = record { plans = c.self.inside.plans.items; entries = c.self.inside.entries.items; gone = c.self.inside.gone; current = c.self.inside.current } in
+    let inside : Planning = record { plans = c.self.inside.plans.items; entries = c.self.inside.entries.items; gone = c.self.inside.gone; current = c.self.inside.current; form = c.self.inside.form } in
     let at = taken inside c.args.self.now kind.Epoch c.args.epoch c.in-Some.at c.index_mut.result.now c.self.view_is c.in-Some.ensures c.index_mut.ensures.value in
     planning_set c.self.inside.top c.in-Some.at inside c.index_mut.result.now c.push_bytes.new.self c.args.bytes.now c.push_bytes.result c.self.invariant at.0 c.push_bytes.ensures.ok c.push_bytes.ensures.valid c.push_bytes.ensures.err
 
 pub returns-in-Some-clause-appended : goal.returns-in-Some-clause-appended
 returns-in-Some-clause-appended c =
-    let inside : Planning = record { plans = c.self.inside.plans.items; entries = c.self.inside.entries.items; gone = c.self.inside.gone; current = c.self.inside.current } in
+    let inside : Planning = record { plans = c.self.inside.plans.items; entries = c.self.inside.entries.items; gone = c.self.inside.gone; current = c.self.inside.current; form = c.self.inside.form } in
     let at = taken inside c.args.self.now kind.Epoch c.args.epoch c.in-Some.at c.index_mut.result.now c.self.view_is c.in-Some.ensures c.index_mut.ensures.value in
     on_ok_weaker c.push_bytes.result (λ more. epoch_set inside c.args.self.now c.args.epoch c.in-Some.at c.args.bytes.now c.index_mut.result.now c.push_bytes.new.self c.self.view_is c.self.invariant.apart at more) c.push_bytes.ensures.ok
 
 pub returns-in-Some-clause-valid : goal.returns-in-Some-clause-valid
 returns-in-Some-clause-valid c =
-    let inside : Planning = record { plans = c.self.inside.plans.items; entries = c.self.inside.entries.items; gone = c.self.inside.gone; current = c.self.inside.current } in
+    let inside : Planning = record { plans = c.self.inside.plans.items; entries = c.self.inside.entries.items; gone = c.self.inside.gone; current = c.self.inside.current; form = c.self.inside.form } in
     on_ok_weaker c.push_bytes.result (λ one. valid_set inside c.args.self.now c.in-Some.at c.push_bytes.new.self c.self.view_is c.self.invariant.valid one) c.push_bytes.ensures.valid
 
 pub returns-in_ok-push_bytes-in-None-clause-appended : goal.returns-in_ok-push_bytes-in-None-clause-appended

@@ -1,13 +1,11 @@
 -- The last epoch was closed, and the map is planned.
-use Rattle.std.proofs.Common.{◌≡◌, None, ℕ, List, sym, ap, subst, arith}
-use Rattle.arch_base.specs.declared.ids.Form.TheVariants as form
-use Rattle.number_map.specs.Rewriting.{PlansMap}
+use Rattle.std.proofs.Common.{◌≡◌, None, ℕ, sym, subst, arith}
 use Rattle.disk_model.specs.declared.name.FileKind.{FileKind}
 use Rattle.disk_model.specs.declared.name.FileKind.TheVariants as kind
 use Rattle.root_change.specs.Rewriting.{AreApart, plan_of}
 use Rattle.store_planning.specs.Planning.{FinishesPlans, Planning}
 use Rattle.store_planning.proofs.Apart.{last_map}
-use Rattle.store_planning.proofs.Finishing.{finish_ready, rises_higher}
+use Rattle.store_planning.proofs.Finishing.{finish_ready, map_planned_by, rises_higher}
 use Rattle.store_planning.proofs.Taken.{finished_named, finished_within}
 use Rattle.store_planning.proofs.planning.Planner.finish.Goals as goal
 
@@ -17,7 +15,8 @@ plan_without-requires c = record { gone = rises_higher 1 c.self.inside.top c.arg
 pub returns-clause-finished : goal.returns-clause-finished
 returns-clause-finished c =
     let mid = c.close_last.new.self in
-    let of = subst (λ (g : List ℕ). PlansMap form.Sha1 c.args.map c.args.count g c.in_ok-plan.plan) (ap (λ (p : Planning). p.gone) c.self.view_is) c.in_ok-plan.ensures in
+    let inside : Planning = record { plans = c.self.inside.plans.items; entries = c.self.inside.entries.items; gone = c.self.inside.gone; current = c.self.inside.current; form = c.self.inside.form } in
+    let of = map_planned_by c.args.self.now inside mid c.args.map c.args.count c.in_ok-plan.plan c.self.view_is c.in_ok-close_last.ensures c.in_ok-plan.ensures in
     (mid, c.in_ok-close_last.ensures, (c.in_ok-plan.plan, of, c.in_ok-push.ensures))
 
 pub returns-clause-ready : goal.returns-clause-ready
@@ -26,7 +25,8 @@ returns-clause-ready c = λ root valid map_is long are taken.
     let map = c.args.map in
     let count = c.args.count in
     let new = c.push.new.self in
-    let of = subst (λ (g : List ℕ). PlansMap form.Sha1 map count g c.in_ok-plan.plan) (ap (λ (p : Planning). p.gone) c.self.view_is) c.in_ok-plan.ensures in
+    let inside : Planning = record { plans = c.self.inside.plans.items; entries = c.self.inside.entries.items; gone = c.self.inside.gone; current = c.self.inside.current; form = c.self.inside.form } in
+    let of = map_planned_by old inside c.close_last.new.self map count c.in_ok-plan.plan c.self.view_is c.in_ok-close_last.ensures c.in_ok-plan.ensures in
     let finishes : FinishesPlans old map count new = (c.close_last.new.self, c.in_ok-close_last.ensures, (c.in_ok-plan.plan, of, c.in_ok-push.ensures)) in
     let so = finish_ready root old map count new finishes (subst (λ (p : Planning). AreApart p.plans) c.self.view_is c.self.invariant.apart) map_is are in
     (so.0, so.1, so.2 (finished_within root old map count new finishes map_is long are taken), finished_named root old map count new finishes map_is long are taken)

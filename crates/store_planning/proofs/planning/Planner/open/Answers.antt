@@ -6,5 +6,5 @@ use Rattle.store_planning.proofs.planning.Planner.open.Goals as goal
 
 pub close-requires : goal.close-requires
 close-requires c =
-    let inside : Planning = record { plans = c.self.inside.plans.items; entries = c.self.inside.entries.items; gone = c.self.inside.gone; current = c.self.inside.current } in
+    let inside : Planning = record { plans = c.self.inside.plans.items; entries = c.self.inside.entries.items; gone = c.self.inside.gone; current = c.self.inside.current; form = c.self.inside.form } in
     current_apart inside c.args.self.now c.in-Some.plan c.self.view_is (search rules) c.requires

@@ -57,7 +57,7 @@ returns-in-Err-clause-taken g c =
 pub returns-in-Err-clause-damage : goal.returns-in-Err-clause-damage
 returns-in-Err-clause-damage g c =
     let content = g.D.Disk.content c.args.disk.now in
-    subst (λ (r : StoreRefusal). DamageBy r (IsDamageOf c.args.file c.args.entry.now content)) (sym c.damaged_in.ensures)
+    subst (λ (r : StoreRefusal). DamageBy r (IsDamageOf c.args.self.now.form c.args.file c.args.entry.now content)) (sym c.damaged_in.ensures)
     (take_damage c.args.self.now c.args.file c.args.entry.now content c.open.new.self c.in_ok-plan.plan c.in-Err.refusal c.in_ok-plan.ensures.opened c.in_ok-plan.ensures.form c.in-Err.ensures.damage)
 
 pub returns-then-eq-clause-lies : goal.returns-then-eq-clause-lies
