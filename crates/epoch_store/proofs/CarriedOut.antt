@@ -67,7 +67,7 @@ module _ {D : Type 0} (g : Disk D) where
   reads_then result old mid new first then_ = unless_weaker (OnlyReads g mid new) (OnlyReads g old new) result (λ more. reads_both g old mid new first more) then_
 
 -- The archive without a text is planned.
-pub purged_archive : (v : StoreState) (cache : List ℕ) (a : Archive) (text : List ℕ) (p : Planning) → KeepsArchive v a → PlansWithout v.root cache a text p.plans × (p.entries ≡ stored_after [] (without_text a.entries text)) → PlansArchive v.root cache a (without_entries a text) p v.root.next
+pub purged_archive : (v : StoreState) (cache : List ℕ) (a : Archive) (text : List ℕ) (p : Planning) → KeepsArchive v a → PlansWithout v.root cache a text p.plans × (p.entries ≡ stored_after a.config.form [] (without_text a.entries text)) → PlansArchive v.root cache a (without_entries a text) p v.root.next
 purged_archive v cache a text p keeps plans = record {
   valid = valid_without a text keeps.valid;
   config = refl;
@@ -114,10 +114,10 @@ new_low last limit len low = by (last == 63) refl (nat_lt len limit) where
   by false is false = (let apart : last ≢ 63 = (λ same. (let hit : (last == 63) ≡ true = grind (arith, nat_tests, same) in let wrong : true ≡ false = sym hit ∙ is in cc)) in omega (arith, low, apart))
 
 pub epoch_low : (b : Archive) → IsArchive b → new_epoch b ≤ 63
-epoch_low b valid = new_low (last_epoch b.entries) b.config.limit (length (epoch_bytes (in_epoch b.entries (last_epoch b.entries)))) (last_at_most b.entries 63 (all_weaker IsEntry (λ (f : Entry). f.epoch ≤ 63) b.entries (λ f entry. entry.epoch) valid.entries))
+epoch_low b valid = new_low (last_epoch b.entries) b.config.limit (length (epoch_bytes b.config.form (in_epoch b.entries (last_epoch b.entries)))) (last_at_most b.entries 63 (all_weaker IsEntry (λ (f : Entry). f.epoch ≤ 63) b.entries (λ f entry. entry.epoch) valid.entries))
 
 -- The archive with one more message is valid.
-pub edited_valid : (b : Archive) (text : List ℕ) (moment : ℕ) → IsArchive b → b.next ≤ b.config.max → IsStorageText text → IsFree (live b.entries) text → collision b.entries text ≡ None → moment ≤ last_moment → IsArchive (with_entry b (new_epoch b) text moment)
+pub edited_valid : (b : Archive) (text : List ℕ) (moment : ℕ) → IsArchive b → b.next ≤ b.config.max → IsStorageText text → IsFree (live b.entries) text → collision b.config.form b.entries text ≡ None → moment ≤ last_moment → IsArchive (with_entry b (new_epoch b) text moment)
 edited_valid b text moment valid left storage free alone in_time =
     let high = valid.config.max_high in
-    archive_grows b (new_epoch b) text moment valid (omega (arith, left, high)) (record { text = storage; epoch = epoch_low b valid; moment = in_time }) (not_before b) (apart_ids (live b.entries) text free.0 free.1 free.2) (agrees-alone b.entries text alone)
+    archive_grows b (new_epoch b) text moment valid (omega (arith, left, high)) (record { text = storage; epoch = epoch_low b valid; moment = in_time }) (not_before b) (apart_ids (live b.entries) text free.0 free.1 free.2) (agrees-alone b.config.form b.entries text alone)

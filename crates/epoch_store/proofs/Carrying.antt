@@ -33,7 +33,7 @@ use Rattle.store_finding.proofs.FrontParts.{store_keeps, store_owns}
 
 -- Plans of a store's own disk make the next archive.
 module _ (v : StoreState) (cache : List ℕ) (a b : Archive) (p : Planning) (next : ℕ) (k : Option Content) (store : IsStoreWith v cache a k) (made : PlansArchive v.root cache a b p next) where
-  planned_next : IsNext (IsRootAfter v.root p.plans next) (rewritten v.root p.plans (parts_of a cache)) [] b
+  planned_next : IsNext (IsRootAfter v.root p.plans next v.root.config.form) (rewritten v.root p.plans (parts_of a cache)) [] b
   planned_next = record {
     valid = made.valid;
     parts_are = made.parts;
@@ -43,11 +43,11 @@ module _ (v : StoreState) (cache : List ℕ) (a b : Archive) (p : Planning) (nex
   }
 
   -- What a crash leaves.
-  pub carried_leaves : {D : Type 0} (g : Disk D) (disk new : D) → ((parts : Parts) → IsOwnOfParts v.root (1 - v.slot) parts k → LeavesOnly g disk new (RecoversPlanned v.root p.plans next parts)) → LeavesOnly g disk new (RecoversOneOf cache a [] b)
+  pub carried_leaves : {D : Type 0} (g : Disk D) (disk new : D) → ((parts : Parts) → IsOwnOfParts v.root (1 - v.slot) parts k → LeavesOnly g disk new (RecoversPlanned v.root p.plans next v.root.config.form parts)) → LeavesOnly g disk new (RecoversOneOf cache a [] b)
   carried_leaves g disk new leaves = next_leaves _ _ [] b planned_next g disk new v cache a k store (leaves (parts_of a cache) (store_owns v cache a k store))
 
   -- What the store has then.
-  pub carried_store : (root : Root) (m : Option Content) → IsRootAfter v.root p.plans next root → ((parts : Parts) → IsOwnOfParts v.root (1 - v.slot) parts k → IsOwnOfParts root (1 - (1 - v.slot)) (rewritten v.root p.plans parts) m) → IsStoreWith (record { root = root; slot = 1 - v.slot; entries = p.entries }) [] b m
+  pub carried_store : (root : Root) (m : Option Content) → IsRootAfter v.root p.plans next v.root.config.form root → ((parts : Parts) → IsOwnOfParts v.root (1 - v.slot) parts k → IsOwnOfParts root (1 - (1 - v.slot)) (rewritten v.root p.plans parts) m) → IsStoreWith (record { root = root; slot = 1 - v.slot; entries = p.entries }) [] b m
   carried_store root m after done = store_next _ _ [] b planned_next root after (1 - v.slot) p.entries m made.entries (done (parts_of a cache) (store_owns v cache a k store))
 
 -- The files that a store names have at least their sizes, but for the cache.
@@ -109,7 +109,7 @@ plan_goes n None place = inl refl
 plan_goes n (Some plan) place = target_goes n plan.target place (plan_count plan)
 
 -- The new root goes on from the old one.
-pub carried_on : (old new : Root) (plans : List Plan) (next : ℕ) → IsReadyPlan old plans next → IsRootAfter old plans next new → GoesOnAnew old new
+pub carried_on : (old new : Root) (plans : List Plan) (next : ℕ) → IsReadyPlan old plans next → IsRootAfter old plans next old.config.form new → GoesOnAnew old new
 carried_on old new plans next ready after = record {
   sequence = after.sequence;
   map =

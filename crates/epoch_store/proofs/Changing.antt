@@ -151,16 +151,16 @@ module _ {D : Type 0} {g : Disk D} where
 
 -- What carrying out promises, by the view of the store and of the planner.
 by_views : {D : Type 0} {g : Disk D} {old new : D} {w v : StoreState} {free next : ℕ} {plans all : List Plan} {result : Result Root RewriteRefusal} → w ≡ v → free ≡ 1 - w.slot → plans ≡ all
-    → CarriesOut g old new w.root free plans next result → CarriesOut g old new v.root (1 - v.slot) all next result
+    → CarriesOut g old new w.root free plans next w.root.config.form result → CarriesOut g old new v.root (1 - v.slot) all next v.root.config.form result
 by_views {g = g} {old} {new} {w} {v} {free} {next} {plans} {all} {result} same free_is plans_are carried =
-    subst (λ (u : StoreState). CarriesOut g old new u.root (1 - u.slot) all next result) same
-    (subst (λ (l : List Plan). CarriesOut g old new w.root (1 - w.slot) l next result) plans_are
-    (subst (λ (n : ℕ). CarriesOut g old new w.root n plans next result) free_is carried))
+    subst (λ (u : StoreState). CarriesOut g old new u.root (1 - u.slot) all next u.root.config.form result) same
+    (subst (λ (l : List Plan). CarriesOut g old new w.root (1 - w.slot) l next w.root.config.form result) plans_are
+    (subst (λ (n : ℕ). CarriesOut g old new w.root n plans next w.root.config.form result) free_is carried))
 
 module _ {D : Type 0} {g : Disk D} {old new : D} {w v : StoreState} {free next : ℕ} {plans : List Plan} {p : Planning}
     (same : w ≡ v) (free_is : free ≡ 1 - w.slot) (plans_are : plans ≡ p.plans) (fewest : g.reads old ≤ g.reads new) where
   -- Plans were carried out.
-  pub carried_done : {root : Root} {entries : List StoredEntry} → entries ≡ p.entries → IsReadyPlan v.root p.plans next → CarriesOut g old new w.root free plans next (Ok root)
+  pub carried_done : {root : Root} {entries : List StoredEntry} → entries ≡ p.entries → IsReadyPlan v.root p.plans next → CarriesOut g old new w.root free plans next w.root.config.form (Ok root)
       → ChangesStore g old new v (record { root = root; slot = free; entries = entries }) Renews (λ a b. (cache : List ℕ) → IsStoreWith v cache a (g.content old) → PlansArchive v.root cache a b p next) (Ok tt)
   carried_done {root} {entries} entries_are ready carries =
       let carried = by_views same free_is plans_are carries in
@@ -185,7 +185,7 @@ module _ {D : Type 0} {g : Disk D} {old new : D} {w v : StoreState} {free next :
         Changed after = ChangesStore g old new v after Renews (λ a b. (cache : List ℕ) → IsStoreWith v cache a (g.content old) → PlansArchive v.root cache a b p next) (Ok tt)
 
   -- The disk failed.
-  pub carried_failed : {refused : RewriteRefusal} → refused ≡ rewrite.DiskFault → CarriesOut g old new w.root free plans next (Err refused)
+  pub carried_failed : {refused : RewriteRefusal} → refused ≡ rewrite.DiskFault → CarriesOut g old new w.root free plans next w.root.config.form (Err refused)
       → ChangesStore g old new v v Renews (λ a b. (cache : List ℕ) → IsStoreWith v cache a (g.content old) → PlansArchive v.root cache a b p next) (Err DiskFault)
   carried_failed {refused = rewrite.Short file at} is carries = absurd (cc is)
   carried_failed {refused = rewrite.DiskFault} is carries =
@@ -194,9 +194,9 @@ module _ {D : Type 0} {g : Disk D} {old new : D} {w v : StoreState} {free next :
       (record { later = carried.cause.later; failed = λ fault. carried.cause.failed tt; kept = λ never. absurd (never refl) }) fewest (Some (spelling carried.crash_root.0), carried.crash_root.2)
 
   -- A range was short.
-  pub carried_short : {refused : RewriteRefusal} {file : FileName} {at : ℕ} → refused ≡ rewrite.Short file at → IsReadyPlan v.root p.plans next → CarriesOut g old new w.root free plans next (Err refused)
+  pub carried_short : {refused : RewriteRefusal} {file : FileName} {at : ℕ} → refused ≡ rewrite.Short file at → IsReadyPlan v.root p.plans next → CarriesOut g old new w.root free plans next w.root.config.form (Err refused)
       → ChangesStore g old new v v Renews (λ a b. (cache : List ℕ) → IsStoreWith v cache a (g.content old) → PlansArchive v.root cache a b p next) (Err (Damaged file at))
   carried_short {refused} {file} {at} is ready carries =
-      let carried = by_views same free_is plans_are (subst (λ (r : RewriteRefusal). CarriesOut g old new w.root free plans next (Err r)) is carries) in
+      let carried = by_views same free_is plans_are (subst (λ (r : RewriteRefusal). CarriesOut g old new w.root free plans next w.root.config.form (Err r)) is carries) in
       unplanned (short_reads (bounds_of v.root) carried.whole (carried.crash_beside tt) carried.cause.later) (Damaged file at) refl (never_short v (Damaged file at) (g.content old) carried.whole) (inr (short_told v p next file at (g.content old) ready carried.whole carried.short))
       (record { later = carried.cause.later; failed = λ fault. absurd (cc fault); kept = λ never. carried.cause.kept (λ wrong. wrong) }) fewest

@@ -8,7 +8,6 @@ use Rattle.arch_base.specs.declared.config.Config.{Config}
 use Rattle.arch_base.specs.declared.ids.ObjectId.{ObjectId}
 use Rattle.arch_base.specs.Moments.{last_moment}
 use Rattle.arch_base.specs.declared.ids.Form.{Form}
-use Rattle.arch_base.specs.declared.ids.Form.TheVariants as form
 use Rattle.disk_model.specs.declared.disk.Disk.{Ghosts as Disk}
 use Rattle.disk_model.specs.declared.name.FileKind.{FileKind}
 use Rattle.disk_model.specs.declared.name.FileKind.TheVariants as file_kind
@@ -72,7 +71,7 @@ deletion_enters v a b number text moment keeps in_time ends = subst (Enters Dele
 })
 
 -- An entry that enters makes the parts of the next archive.
-module _ (v : StoreState) (a b : Archive) (cache : List ℕ) (p : NextPlace) (e : NewEntry) (number : ℕ) (keeps : KeepsArchive v a) (next : IsNextPlace v.root a (next_sequence v.root.sequence) p) (parent : e.parent ≡ p.parent) (form_is : e.form ≡ form.Sha1) (enters : Enters e.kind number e.text.now e.moment a b) where
+module _ (v : StoreState) (a b : Archive) (cache : List ℕ) (p : NextPlace) (e : NewEntry) (number : ℕ) (keeps : KeepsArchive v a) (next : IsNextPlace v.root a (next_sequence v.root.sequence) p) (parent : e.parent ≡ p.parent) (form_is : e.form ≡ a.config.form) (enters : Enters e.kind number e.text.now e.moment a b) where
   abbrev new : Entry
   new = record { kind = e.kind; number = number; epoch = p.epoch; text = e.text.now; moment = e.moment }
 
@@ -82,16 +81,16 @@ module _ (v : StoreState) (a b : Archive) (cache : List ℕ) (p : NextPlace) (e 
   made_is : made ≡ b
   made_is = ap (λ (n : ℕ). with_new a e.kind number n e.text.now e.moment) next.epoch ∙ sym enters.is
 
-  piece_is : appended p.length e ≡ front_at form.Sha1 (length (bytes_in a p.epoch)) ++ bytes_after form.Sha1 (last_commit None (in_epoch a.entries p.epoch)) (entry_of e)
+  piece_is : appended p.length e ≡ front_at a.config.form (length (bytes_in a p.epoch)) ++ bytes_after a.config.form (last_commit a.config.form None (in_epoch a.entries p.epoch)) (entry_of e)
   piece_is =
       ap (λ (g : Form). front_at g p.length ++ bytes_after g e.parent (entry_of e)) form_is
-      ∙ (ap (λ (n : ℕ). front_at form.Sha1 n ++ bytes_after form.Sha1 e.parent (entry_of e)) next.length_is
-      ∙ ap (λ (q : Option ObjectId). front_at form.Sha1 (length (bytes_in a p.epoch)) ++ bytes_after form.Sha1 q (entry_of e)) (parent ∙ next.parent))
+      ∙ (ap (λ (n : ℕ). front_at a.config.form n ++ bytes_after a.config.form e.parent (entry_of e)) next.length_is
+      ∙ ap (λ (q : Option ObjectId). front_at a.config.form (length (bytes_in a p.epoch)) ++ bytes_after a.config.form q (entry_of e)) (parent ∙ next.parent))
 
-  line_is : line_of v.root p e ≡ line_by e.kind a.next (new_epoch a) (blob_id_of form.Sha1 e.text.now)
+  line_is : line_of v.root p e ≡ line_by e.kind a.next (new_epoch a) (blob_id_of a.config.form e.text.now)
   line_is =
       ap (λ (g : Form). line_by e.kind v.root.next p.epoch (blob_id_of g e.text.now)) form_is
-      ∙ (ap (λ (n : ℕ). line_by e.kind n p.epoch (blob_id_of form.Sha1 e.text.now)) keeps.names.next ∙ ap (λ (n : ℕ). line_by e.kind a.next n (blob_id_of form.Sha1 e.text.now)) next.epoch)
+      ∙ (ap (λ (n : ℕ). line_by e.kind n p.epoch (blob_id_of a.config.form e.text.now)) keeps.names.next ∙ ap (λ (n : ℕ). line_by e.kind a.next n (blob_id_of a.config.form e.text.now)) next.epoch)
 
   parts_are : (k : FileKind) (n : ℕ) → parts_with v.root p e (parts_of a cache) k n ≡ parts_of b cache k n
   parts_are file_kind.Root n = refl
@@ -118,11 +117,11 @@ module _ (v : StoreState) (a b : Archive) (cache : List ℕ) (p : NextPlace) (e 
     cache_fits = λ root is. (let same : root.cache.length ≡ v.root.cache.length = ap (λ (r : Root). r.cache.length) is in omega (arith, same, cache_fits));
   }
 
-  entries_next : v.entries ++ stored_at a.entries new ∷ [] ≡ stored_after [] b.entries
-  entries_next = ap (λ (es : List StoredEntry). es ++ stored_at a.entries new ∷ []) keeps.kept ∙ (sym (stored_more [] a.entries new) ∙ ap (λ (c : Archive). stored_after [] c.entries) made_is)
+  entries_next : v.entries ++ stored_at a.config.form a.entries new ∷ [] ≡ stored_after b.config.form [] b.entries
+  entries_next = ap (λ (es : List StoredEntry). es ++ stored_at a.config.form a.entries new ∷ []) keeps.kept ∙ (sym (stored_more a.config.form [] a.entries new) ∙ ap (λ (c : Archive). stored_after c.config.form [] c.entries) made_is)
 
 -- What is promised of parts holds of the archives of a store that got room for one more entry.
-module _ (e : NewEntry) {w v : StoreState} {p : NextPlace} {free number : ℕ} (k : Option Content) (same : w ≡ v) (free_is : free ≡ 1 - w.slot) (next : (a : Archive) → KeepsArchive v a → IsNextPlace v.root a (next_sequence v.root.sequence) p) (parent : e.parent ≡ p.parent) (form_is : e.form ≡ form.Sha1)
+module _ (e : NewEntry) {w v : StoreState} {p : NextPlace} {free number : ℕ} (k : Option Content) (same : w ≡ v) (free_is : free ≡ 1 - w.slot) (next : (a : Archive) → KeepsArchive v a → IsNextPlace v.root a (next_sequence v.root.sequence) p) (parent : e.parent ≡ p.parent) (form_is : e.form ≡ w.root.config.form)
     (a b : Archive) (cache : List ℕ) (store : IsStoreWith v cache a k) (room : v.root.sequence + 1 < 2 ^ 64) (enters : Enters e.kind number e.text.now e.moment a b) where
   store_now : IsStoreWith w cache a k
   store_now = subst (λ (u : StoreState). IsStoreWith u cache a k) (sym same) store
@@ -136,21 +135,24 @@ module _ (e : NewEntry) {w v : StoreState} {p : NextPlace} {free number : ℕ} (
   own_now : IsOwnOfParts w.root free (parts_of a cache) k
   own_now = subst (λ (n : ℕ). IsOwnOfParts w.root n (parts_of a cache) k) (sym free_is) (store_owns w cache a k store_now)
 
+  form_now : e.form ≡ a.config.form
+  form_now = form_is ∙ ap (λ (c : Config). c.form) keeps_now.names.config
+
   room_now : w.root.sequence + 1 < 2 ^ 64
   room_now = subst (λ (u : StoreState). u.root.sequence + 1 < 2 ^ 64) (sym same) room
 
   is_next : IsNext (λ root. root ≡ root_with w.root p e) (parts_with w.root p e (parts_of a cache)) cache b
-  is_next = entry_next w a b cache p e number keeps_now place_now parent form_is enters (store_cache w cache a k store_now)
+  is_next = entry_next w a b cache p e number keeps_now place_now parent form_now enters (store_cache w cache a k store_now)
 
   pub enters_leaves : {D : Type 0} (g : Disk D) (disk after : D) → ((parts : Parts) → IsOwnOfParts w.root free parts k → w.root.sequence + 1 < 2 ^ 64 → LeavesOnly g disk after (RecoversEntered w.root p e parts)) → LeavesOnly g disk after (RecoversOneOf cache a cache b)
   enters_leaves g disk after leaves = next_leaves _ _ cache b is_next g disk after w cache a k store_now (leaves (parts_of a cache) own_now room_now)
 
   pub enters_store : (root : Root) (entries : List StoredEntry) (stored : StoredEntry) (m : Option Content) → root ≡ root_with w.root p e → entries ≡ w.entries ++ stored ∷ []
-      → ((c : Archive) → KeepsArchive w c → IsNextPlace w.root c (next_sequence w.root.sequence) p → stored ≡ stored_at c.entries (record { kind = e.kind; number = number; epoch = p.epoch; text = e.text.now; moment = e.moment }))
+      → ((c : Archive) → KeepsArchive w c → IsNextPlace w.root c (next_sequence w.root.sequence) p → stored ≡ stored_at c.config.form c.entries (record { kind = e.kind; number = number; epoch = p.epoch; text = e.text.now; moment = e.moment }))
       → ((parts : Parts) → IsOwnOfParts w.root free parts k → w.root.sequence + 1 < 2 ^ 64 → IsOwnOfParts root (1 - free) (parts_with w.root p e parts) m) → IsStoreWith (record { root = root; slot = free; entries = entries }) cache b m
   enters_store root entries stored m root_is more kept done =
       store_next _ _ cache b is_next root root_is free entries m
-      (more ∙ (ap (λ (s : StoredEntry). w.entries ++ s ∷ []) (kept a keeps_now place_now) ∙ entries_next w a b cache p e number keeps_now place_now parent form_is enters))
+      (more ∙ (ap (λ (s : StoredEntry). w.entries ++ s ∷ []) (kept a keeps_now place_now) ∙ entries_next w a b cache p e number keeps_now place_now parent form_now enters))
       (done (parts_of a cache) own_now room_now)
 
 -- A command that makes an archive of another one makes each that it comes to.

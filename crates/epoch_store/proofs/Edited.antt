@@ -4,7 +4,6 @@ use Rattle.std.proofs.Common.{◌∙◌, sym, subst}
 use Rattle.arch_base.specs.declared.config.Config.{Config}
 use Rattle.arch_base.specs.declared.ids.ObjectId.{ObjectId}
 use Rattle.arch_base.specs.Moments.{last_moment}
-use Rattle.arch_base.specs.declared.ids.Form.TheVariants as form
 use Rattle.disk_model.specs.Disk.{Content}
 use Rattle.git_objects.specs.Objects.{blob_id_of}
 use Rattle.arch_model.specs.Archives.{Archive, live, text_of, with_entry, without_entries}
@@ -19,7 +18,7 @@ use Rattle.epoch_store.proofs.Kept.{in_epochs_more}
 
 -- The plans write the archive with the message.
 pub edited_archive : (v : StoreState) (number : ℕ) (blob : ObjectId) (text : List ℕ) (moment : ℕ) (p q : Planning) (content : Option Content) → MayEdit v number blob text → moment ≤ last_moment → PlansPurge v blob p.entries p.plans → PlansOwn v blob p.entries p.plans content → PlansEdit v p text moment q
-    → (n : ℕ) (a : Archive) (cache gone : List ℕ) → IsStoreWith v cache a content → text_of (live a.entries) n ≡ Some gone → blob_id_of form.Sha1 gone ≡ blob → collision (without_entries a gone).entries text ≡ None
+    → (n : ℕ) (a : Archive) (cache gone : List ℕ) → IsStoreWith v cache a content → text_of (live a.entries) n ≡ Some gone → blob_id_of a.config.form gone ≡ blob → collision a.config.form (without_entries a gone).entries text ≡ None
     → PlansArchive v.root cache a (with_entry (without_entries a gone) (new_epoch (without_entries a gone)) text moment) q (v.root.next + 1)
 edited_archive v number blob text moment p q content may in_time purge own edit n a cache gone store shown is alone =
     let keeps = store_keeps v cache a content store in

@@ -71,7 +71,7 @@ next_here v a end_ keeps is small takes = record {
   length_is = keeps.names.epochs end_.epoch (omega (arith, small));
   old = λ some. gen_old v a end_.epoch keeps small some;
   new = λ none. gen_new v a end_.epoch keeps small none;
-  parent = is.parent ∙ ap (λ (e : ℕ). last_commit None (in_epoch a.entries e)) (sym is.epoch);
+  parent = is.parent ∙ ap (λ (e : ℕ). last_commit a.config.form None (in_epoch a.entries e)) (sym is.epoch);
 } where
   taken : (last_epoch a.entries ≡ 63) ⊎ ((get_or v.root.epochs (last_epoch a.entries) no_place).length < v.root.config.limit) → new_epoch a ≡ last_epoch a.entries
   taken (inl is63) = epoch_here a (inl is63)
@@ -95,5 +95,5 @@ next_after v a end_ keeps is small full =
       length_is = keeps.names.epochs (end_.epoch + 1) (omega (arith, small));
       old = λ some. gen_old v a (end_.epoch + 1) keeps below some;
       new = λ empty. gen_new v a (end_.epoch + 1) keeps below empty;
-      parent = sym (ap (last_commit None) none);
+      parent = sym (ap (last_commit a.config.form None) none);
     }

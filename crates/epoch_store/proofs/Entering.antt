@@ -5,7 +5,6 @@ use Rattle.std.proofs.lemmas.Bool.{cases_lt}
 use Rattle.std.proofs.lemmas.List.{nil_from_length}
 use Rattle.arch_base.specs.declared.ids.ObjectId.{ObjectId}
 use Rattle.arch_base.specs.declared.ids.Form.{Form}
-use Rattle.arch_base.specs.declared.ids.Form.TheVariants as form
 use Rattle.disk_model.specs.declared.disk.Disk.{Ghosts as Disk}
 use Rattle.disk_model.specs.declared.name.FileKind.{FileKind}
 use Rattle.disk_model.specs.declared.name.FileKind.TheVariants as kind
@@ -14,13 +13,14 @@ use Rattle.disk_model.specs.Beside.{RespectsBound, RunsBeside}
 use Rattle.disk_model.specs.Disk.{File, Content, BothTold, WhereTold, OneFile, Wrote, IsAtMostLength, bytes_of}
 use Rattle.disk_model.specs.Images.{same_or_other}
 use Rattle.disk_model.specs.Moments.{LeavesOnly, weaker}
+use Rattle.disk_model.specs.Sizes.{record_size}
 use Rattle.disk_model.specs.Tells.{told_then, told_weaker, told_where}
 use Rattle.git_objects.specs.Objects.{blob_id_of, blob_spelling}
 use Rattle.git_objects.specs.declared.entry_kind.EntryKind.{EntryKind}
 use Rattle.git_objects.specs.declared.entry_kind.EntryKind.TheVariants.{Message, Deletion}
 use Rattle.git_objects.proofs.ObjectIds.{IsObjectId-id_of}
 use Rattle.mail_commits.specs.Entries.{entry_bytes}
-use Rattle.number_map.specs.Sizes.{record_length}
+use Rattle.number_map.specs.Sizes.{record_length, sizes_none, sizes_one}
 use Rattle.epoch_file.specs.Entries.{EpochEntry, bytes_after}
 use Rattle.epoch_file.specs.declared.entry.NewEntry.{NewEntry}
 use Rattle.epoch_file.specs.Appending.{front_at, appended, entry_of}
@@ -69,11 +69,11 @@ pub appended_some : (at : ℕ) (e : NewEntry) → 0 < length (appended at e)
 appended_some at e = (let some = some_bytes e.form e.parent (entry_of e) in omega (arith, some, length-append (front_at e.form at) (bytes_after e.form e.parent (entry_of e))))
 
 -- The map gets one record for each number that is taken.
-line_size : (root : Root) (p : NextPlace) (e : NewEntry) → e.form ≡ form.Sha1 → length (line_of root p e) ≡ numbers_by e.kind * 28
-line_size root p e form_is = ap (λ (g : Form). length (line_by e.kind root.next p.epoch (blob_id_of g e.text.now))) form_is ∙ by e.kind where
-  by : (k : EntryKind) → length (line_by k root.next p.epoch (blob_id_of form.Sha1 e.text.now)) ≡ numbers_by k * 28
-  by Message = record_length form.Sha1 (record { number = root.next; epoch = p.epoch; blob = blob_id_of form.Sha1 e.text.now }) (IsObjectId-id_of form.Sha1 (blob_spelling e.text.now)).len
-  by Deletion = refl
+line_size : (root : Root) (p : NextPlace) (e : NewEntry) → e.form ≡ root.config.form → length (line_of root p e) ≡ record_size root.config.form * numbers_by e.kind
+line_size root p e form_is = by e.kind ∙ ap (λ (g : Form). record_size g * numbers_by e.kind) form_is where
+  by : (k : EntryKind) → length (line_by k root.next p.epoch (blob_id_of e.form e.text.now)) ≡ record_size e.form * numbers_by k
+  by Message = record_length e.form (record { number = root.next; epoch = p.epoch; blob = blob_id_of e.form e.text.now }) (IsObjectId-id_of e.form (blob_spelling e.text.now)).len ∙ sym (sizes_one e.form)
+  by Deletion = sym (sizes_none e.form)
 
 -- The map's bytes that count end where its records do.
 map_end : (root : Root) → named_end root (map_name root.map.generation) ≡ root.map.length
@@ -142,7 +142,7 @@ module _ (root : Root) (p : NextPlace) (is : p ≡ place_at root p.epoch p.paren
         ap (λ (n : ℕ). (get_or (set root.epochs p.epoch (record { generation = p.generation; length = end_ })) n no_place).generation) at
         ∙ ap (λ (q : Place). q.generation) (set_here root.epochs p.epoch (record { generation = p.generation; length = end_ }) (omega (arith, count, small)))
 
-  module _ (e : NewEntry) (form_is : e.form ≡ form.Sha1) (count : length root.epochs ≡ 64) where
+  module _ (e : NewEntry) (form_is : e.form ≡ root.config.form) (count : length root.epochs ≡ 64) where
     -- The root after a new entry, and the files to which it was appended.
     abbrev new : Root
     new = root_with root p e

@@ -4,8 +4,6 @@ use Rattle.std.specs.List.{AllByRecursion}
 use Rattle.std.proofs.Common.{◌∙◌, sym, ap, subst, inl, inr, arith, length-append}
 use Rattle.std.proofs.lemmas.Bool.Decides.{nat_tests}
 use Rattle.std.proofs.lemmas.List.{get_or-set_same, get_or-set_other}
-use Rattle.arch_base.specs.declared.ids.Form.{Form}
-use Rattle.arch_base.specs.declared.ids.Form.TheVariants as form
 use Rattle.arch_base.specs.declared.ids.ObjectId.{ObjectId}
 use Rattle.arch_base.specs.Ids.{form_of}
 use Rattle.git_objects.specs.Objects.{blob_id_of}
@@ -28,7 +26,7 @@ use Rattle.epoch_file.specs.declared.entry.Written.{Written}
 use Rattle.epoch_file.specs.Entries.{bytes_after}
 use Rattle.epoch_file.specs.Lying.{EntryLiesIn, tree_end}
 use Rattle.epoch_file.specs.Walking.{blob_front}
-use Rattle.epoch_file.proofs.Sizes.{length-entry}
+use Rattle.epoch_file.proofs.Sizes.{length-entry, tree_by_blob}
 use Rattle.mail_commits.specs.Entries.{magic}
 use Rattle.store_finding.specs.declared.entries.StoredEntry.{StoredEntry}
 use Rattle.store_planning.specs.declared.next.NextPlace.{NextPlace}
@@ -38,6 +36,7 @@ use Rattle.store_planning.specs.Planning.{AreAnew, length_after, length_by}
 use Rattle.store_finding.specs.Kept.{InEpochs}
 use Rattle.epoch_store.specs.Commands.{place_of}
 use Rattle.store_finding.proofs.Extents.{all_more, lie_more}
+use Rattle.store_planning.proofs.Planned.{magic_long}
 use Rattle.store_planning.proofs.PlannedExtents.{anew_long, none_planned, anew_planned}
 
 -- Entries lie in files that are longer.
@@ -70,31 +69,29 @@ pub up_to_later : (es : List StoredEntry) (epoch later : ℕ) → epoch ≤ late
 up_to_later es epoch later more all = all_weaker (λ (e : StoredEntry). e.epoch ≤ epoch) (λ (e : StoredEntry). e.epoch ≤ later) es (λ e less. omega (arith, less, more)) all
 
 -- A new entry lies at the end of its file.
-new_lies : (start : ℕ) (entry : NewEntry) (seen : Seen) (at front : ℕ) → entry.form ≡ form.Sha1 → seen.blob ≡ blob_id_of form.Sha1 entry.text.now → at ≡ (if start == 0 then 8 else start) → front ≡ blob_front entry.text.now → seen.at ≡ at → seen.text_at ≡ at + front → seen.size ≡ length entry.text.now → EntryLiesIn start (start + length (appended start entry)) seen
-new_lies start entry seen at front form_is blob_is at_is front_is seen_at_is text_is size_is = by (start == 0) refl where
-  more : length (appended start entry) ≡ length (front_at form.Sha1 start) + length (bytes_after form.Sha1 entry.parent (entry_of entry))
-  more =
-      ap (λ (g : Form). length (front_at g start ++ bytes_after g entry.parent (entry_of entry))) form_is
-      ∙ length-append (front_at form.Sha1 start) (bytes_after form.Sha1 entry.parent (entry_of entry))
+new_lies : (start : ℕ) (entry : NewEntry) (seen : Seen) (at front : ℕ) → seen.blob ≡ blob_id_of entry.form entry.text.now → at ≡ (if start == 0 then 8 else start) → front ≡ blob_front entry.text.now → seen.at ≡ at → seen.text_at ≡ at + front → seen.size ≡ length entry.text.now → EntryLiesIn start (start + length (appended start entry)) seen
+new_lies start entry seen at front blob_is at_is front_is seen_at_is text_is size_is = by (start == 0) refl where
+  more : length (appended start entry) ≡ length (front_at entry.form start) + length (bytes_after entry.form entry.parent (entry_of entry))
+  more = length-append (front_at entry.form start) (bytes_after entry.form entry.parent (entry_of entry))
 
-  tree : tree_size (form_of seen.blob) ≡ 37
-  tree = ap (λ (i : ObjectId). tree_size (form_of i)) blob_is
+  tree : tree_size (form_of seen.blob) ≡ tree_size entry.form
+  tree = ap (λ (i : ObjectId). tree_size (form_of i)) blob_is ∙ tree_by_blob entry.form entry.text.now
 
   by : (t : Bool) → (start == 0) ≡ t → EntryLiesIn start (start + length (appended start entry)) seen
   by true is =
       let none : start ≡ 0 = grind (arith, nat_tests, is) in
       let at_8 : at ≡ 8 = at_is ∙ ap (λ (b : Bool). if b then 8 else start) is in
-      let eight : length (front_at form.Sha1 start) ≡ 8 = ap (λ (b : Bool). length (if b then magic form.Sha1 else [])) is in
-      let size = length-entry form.Sha1 entry.parent (entry_of entry) in
+      let eight : length (front_at entry.form start) ≡ 8 = ap (λ (b : Bool). length (if b then magic entry.form else [])) is ∙ magic_long entry.form in
+      let size = length-entry entry.form entry.parent (entry_of entry) in
       record { at = omega (arith, none); text = omega (arith, seen_at_is, text_is); ends = omega (arith, more, eight, size, none, at_8, text_is, front_is, size_is, tree) }
   by false is =
       let at_same : at ≡ start = at_is ∙ ap (λ (b : Bool). if b then 8 else start) is in
-      let size = length-entry form.Sha1 entry.parent (entry_of entry) in
+      let size = length-entry entry.form entry.parent (entry_of entry) in
       record { at = omega (arith, at_same, seen_at_is); text = omega (arith, seen_at_is, text_is); ends = omega (arith, more, size, at_same, text_is, front_is, size_is, tree) }
 
-pub written_lies : (start : ℕ) (entry : NewEntry) (seen : Seen) (at front : ℕ) (written : Written) → entry.form ≡ form.Sha1 → seen.blob ≡ blob_id_of form.Sha1 entry.text.now → written ≡ written_of start entry → at ≡ (if start == 0 then 8 else start) → front ≡ blob_front entry.text.now → seen.at ≡ at → seen.text_at ≡ at + front → seen.size ≡ length entry.text.now → EntryLiesIn start written.end seen
-written_lies start entry seen at front written form_is blob_is is at_is front_is seen_at_is text_is size_is =
-    subst (λ (w : Written). EntryLiesIn start w.end seen) (sym is) (new_lies start entry seen at front form_is blob_is at_is front_is seen_at_is text_is size_is)
+pub written_lies : (start : ℕ) (entry : NewEntry) (seen : Seen) (at front : ℕ) (written : Written) → seen.blob ≡ blob_id_of entry.form entry.text.now → written ≡ written_of start entry → at ≡ (if start == 0 then 8 else start) → front ≡ blob_front entry.text.now → seen.at ≡ at → seen.text_at ≡ at + front → seen.size ≡ length entry.text.now → EntryLiesIn start written.end seen
+written_lies start entry seen at front written blob_is is at_is front_is seen_at_is text_is size_is =
+    subst (λ (w : Written). EntryLiesIn start w.end seen) (sym is) (new_lies start entry seen at front blob_is at_is front_is seen_at_is text_is size_is)
 
 -- The lengths that a root names after an entry was written in an epoch, which ends then at an offset.
 pub written_lengths : (epochs : List Place) (generation epoch end_ : ℕ) → epoch < length epochs → (get_or epochs epoch no_place).length ≤ end_
@@ -182,7 +179,7 @@ planned_more root old new es e piece start end_ anew own others start_is end_is 
       ]
 
 -- What a store keeps once plans are carried out.
-pub named_after : (old : Root) (plans : List Plan) (next : ℕ) (new : Root) (es : List StoredEntry) → IsRootAfter old plans next new → InEpochs es → AreNamedAfter old plans es → AreNamed new es
+pub named_after : (old : Root) (plans : List Plan) (next : ℕ) (new : Root) (es : List StoredEntry) → IsRootAfter old plans next old.config.form new → InEpochs es → AreNamedAfter old plans es → AreNamed new es
 named_after old plans next new es after low are = record { lie = are.lie; ends = by es low are.ends } where
   by : (xs : List StoredEntry) → InEpochs xs → AllByRecursion (λ (e : StoredEntry). tree_end e.seen ≤ length_planned old plans e.epoch) xs → AllByRecursion (λ (e : StoredEntry). tree_end e.seen ≤ named_length new e.epoch) xs
   by [] in_ all = tt

@@ -6,12 +6,13 @@ use Rattle.std.proofs.Common.{◌∙◌, sym, ap, subst, inl, inr, arith}
 use Rattle.std.proofs.Math.Seq.{take-length}
 use Rattle.std.proofs.lemmas.Bool.{cases_lt}
 use Rattle.std.proofs.lemmas.Bool.Decides.{nat_tests}
-use Rattle.arch_base.specs.declared.ids.Form.TheVariants as form
+use Rattle.arch_base.specs.declared.ids.Form.{Form}
 use Rattle.disk_model.specs.Name.{kind_index}
 use Rattle.disk_model.specs.declared.name.FileKind.{FileKind}
 use Rattle.disk_model.specs.declared.name.FileKind.TheVariants as kind
 use Rattle.disk_model.specs.declared.name.FileName.{FileName}
 use Rattle.disk_model.specs.Disk.{Content}
+use Rattle.disk_model.specs.Sizes.{record_size}
 use Rattle.root_slots.specs.declared.root.Root.{Root}
 use Rattle.root_slots.specs.RootName.{root_name}
 use Rattle.root_change.specs.declared.plan.Target.{Target}
@@ -97,47 +98,48 @@ not_among (e ∷ es) text low n less climbs =
     among_step (bytes_eq text e.text) e.number (nums es text) n (omega (arith, at, less)) (not_among es text (e.number + 1) n (omega (arith, at, less)) climbs.1)
 
 -- The record of a number without the messages that are gone.
-abbrev record_of : List ℕ → ℕ → Option Entry → Record
-record_of gone n found_ = if is_among gone n then none_record form.Sha1 n else record_for n found_
+abbrev record_of : Form → List ℕ → ℕ → Option Entry → Record
+record_of form gone n found_ = if is_among gone n then none_record form n else record_for form n found_
 
-record_step : (t u : Bool) (e : Entry) (es : List Entry) (text : List ℕ) (n : ℕ) → bytes_eq text e.text ≡ t → (e.number == n) ≡ u → Climbs (e.number + 1) es → record_of (nums es text) n (entry_of es n) ≡ record_for n (entry_of (kept_of es text) n)
-    → record_of (if t then e.number ∷ nums es text else nums es text) n (if u then Some e else entry_of es n) ≡ record_for n (entry_of (if not t then e ∷ kept_of es text else kept_of es text) n)
-record_step true true e es text n is test climbs rest =
+record_step : (form : Form) (t u : Bool) (e : Entry) (es : List Entry) (text : List ℕ) (n : ℕ) → bytes_eq text e.text ≡ t → (e.number == n) ≡ u → Climbs (e.number + 1) es → record_of form (nums es text) n (entry_of es n) ≡ record_for form n (entry_of (kept_of es text) n)
+    → record_of form (if t then e.number ∷ nums es text else nums es text) n (if u then Some e else entry_of es n) ≡ record_for form n (entry_of (if not t then e ∷ kept_of es text else kept_of es text) n)
+record_step form true true e es text n is test climbs rest =
     let same : e.number ≡ n = grind (arith, nat_tests, test) in
-    ap (λ (b : Bool). if b || is_among (nums es text) n then none_record form.Sha1 n else record_for n (Some e)) test
-    ∙ ap (record_for n) (sym (none_kept es text (e.number + 1) n (omega (arith, same)) climbs))
-record_step true false e es text n is test climbs rest = ap (λ (b : Bool). if b || is_among (nums es text) n then none_record form.Sha1 n else record_for n (entry_of es n)) test ∙ rest
-record_step false true e es text n is test climbs rest =
+    ap (λ (b : Bool). if b || is_among (nums es text) n then none_record form n else record_for form n (Some e)) test
+    ∙ ap (record_for form n) (sym (none_kept es text (e.number + 1) n (omega (arith, same)) climbs))
+record_step form true false e es text n is test climbs rest = ap (λ (b : Bool). if b || is_among (nums es text) n then none_record form n else record_for form n (entry_of es n)) test ∙ rest
+record_step form false true e es text n is test climbs rest =
     let same : e.number ≡ n = grind (arith, nat_tests, test) in
-    ap (λ (b : Bool). if b then none_record form.Sha1 n else record_for n (Some e)) (not_among es text (e.number + 1) n (omega (arith, same)) climbs)
-    ∙ ap (λ (b : Bool). record_for n (if b then Some e else entry_of (kept_of es text) n)) (sym test)
-record_step false false e es text n is test climbs rest = rest ∙ ap (λ (b : Bool). record_for n (if b then Some e else entry_of (kept_of es text) n)) (sym test)
+    ap (λ (b : Bool). if b then none_record form n else record_for form n (Some e)) (not_among es text (e.number + 1) n (omega (arith, same)) climbs)
+    ∙ ap (λ (b : Bool). record_for form n (if b then Some e else entry_of (kept_of es text) n)) (sym test)
+record_step form false false e es text n is test climbs rest = rest ∙ ap (λ (b : Bool). record_for form n (if b then Some e else entry_of (kept_of es text) n)) (sym test)
 
-record_same : (es : List Entry) (text : List ℕ) (low n : ℕ) → Climbs low es → record_of (nums es text) n (entry_of es n) ≡ record_for n (entry_of (kept_of es text) n)
-record_same [] text low n climbs = refl
-record_same (e ∷ es) text low n climbs = record_step (bytes_eq text e.text) (e.number == n) e es text n refl refl climbs.1 (record_same es text (e.number + 1) n climbs.1)
+record_same : (form : Form) (es : List Entry) (text : List ℕ) (low n : ℕ) → Climbs low es → record_of form (nums es text) n (entry_of es n) ≡ record_for form n (entry_of (kept_of es text) n)
+record_same form [] text low n climbs = refl
+record_same form (e ∷ es) text low n climbs = record_step form (bytes_eq text e.text) (e.number == n) e es text n refl refl climbs.1 (record_same form es text (e.number + 1) n climbs.1)
 
-numbered : (n : ℕ) (o : Option Entry) → (record_for n o).number ≡ n
-numbered n None = refl
-numbered n (Some e) = refl
+numbered : (form : Form) (n : ℕ) (o : Option Entry) → (record_for form n o).number ≡ n
+numbered form n None = refl
+numbered form n (Some e) = refl
 
-record_is : (gone : List ℕ) (n : ℕ) (o : Option Entry) → record_without form.Sha1 gone (record_for n o) ≡ record_of gone n o
-record_is gone n None = refl
-record_is gone n (Some e) = refl
+record_is : (form : Form) (gone : List ℕ) (n : ℕ) (o : Option Entry) → record_without form gone (record_for form n o) ≡ record_of form gone n o
+record_is form gone n None = refl
+record_is form gone n (Some e) = refl
 
-records_same : (gone : List ℕ) (es fs : List Entry) (n count : ℕ) → ((m : ℕ) → record_of gone m (entry_of es m) ≡ record_for m (entry_of fs m)) → map (record_without form.Sha1 gone) (records_from es n count) ≡ records_from fs n count
-records_same gone es fs n zero each = refl
-records_same gone es fs n (suc count) each = λ i. (record_is gone n (entry_of es n) ∙ each n) i ∷ records_same gone es fs (n + 1) count each i
+records_same : (form : Form) (gone : List ℕ) (es fs : List Entry) (n count : ℕ) → ((m : ℕ) → record_of form gone m (entry_of es m) ≡ record_for form m (entry_of fs m)) → map (record_without form gone) (records_from form es n count) ≡ records_from form fs n count
+records_same form gone es fs n zero each = refl
+records_same form gone es fs n (suc count) each = λ i. (record_is form gone n (entry_of es n) ∙ each n) i ∷ records_same form gone es fs (n + 1) count each i
 
 -- The map without the messages that are gone is that of the archive without their text.
-pub map_same : (a : Archive) (text : List ℕ) → IsArchive a → map_without form.Sha1 (gone_of a.entries text) (records_of a) ≡ map_bytes (without_entries a text)
+pub map_same : (a : Archive) (text : List ℕ) → IsArchive a → map_without a.config.form (gone_of a.entries text) (records_of a) ≡ map_bytes (without_entries a text)
 map_same a text valid =
+    let form = a.config.form in
     let ms = messages a.entries in
     let climbs = messages_climb 1 0 a.entries valid.order in
     let kept : kept_of ms text ≡ messages (without_text a.entries text) = sym (messages_kept (λ (t : List ℕ). not (bytes_eq text t)) a.entries) in
-    let each : (m : ℕ) → record_of (gone_of a.entries text) m (entry_of ms m) ≡ record_for m (entry_of (messages (without_text a.entries text)) m) =
-    λ m. ap (λ (g : List ℕ). record_of g m (entry_of ms m)) (gone_is a.entries text) ∙ (record_same ms text 1 m climbs ∙ ap (λ (l : List Entry). record_for m (entry_of l m)) kept) in
-    ap (flat_map record_bytes) (records_same (gone_of a.entries text) ms (messages (without_text a.entries text)) 1 (a.next - 1) each)
+    let each : (m : ℕ) → record_of form (gone_of a.entries text) m (entry_of ms m) ≡ record_for form m (entry_of (messages (without_text a.entries text)) m) =
+    λ m. ap (λ (g : List ℕ). record_of form g m (entry_of ms m)) (gone_is a.entries text) ∙ (record_same form ms text 1 m climbs ∙ ap (λ (l : List Entry). record_for form m (entry_of l m)) kept) in
+    ap (flat_map record_bytes) (records_same form (gone_of a.entries text) ms (messages (without_text a.entries text)) 1 (a.next - 1) each)
 
 -- What a plan of one file writes depends on that file alone.
 source_same : (bytes : List ℕ) (t u : Texts) (file : FileName) (s : Source) → u file ≡ t file → IsSourceFrom file s → source_text bytes u s ≡ source_text bytes t s
@@ -174,17 +176,18 @@ by_plan t u root plans k n (Some p) before is from same =
 
 -- The last epoch was closed.
 module _ (k : Content) (v : StoreState) (cache : List ℕ) (a : Archive) (own : IsDiskWith v cache a k) (text : List ℕ) (old : Planning) (up : IsPlannedUpTo (texts_in k) v.root a a.entries text old) where
-  all_shut : (current : Option Planned) → IsCurrent (texts_in k) v.root a.entries text current → (mid : Planning) → ClosesLast old current mid → IsShut (texts_in k) a a.entries text mid
+  all_shut : (current : Option Planned) → IsCurrent a.config.form (texts_in k) v.root a.entries text current → (mid : Planning) → ClosesLast old current mid → IsShut (texts_in k) a a.entries text mid
   all_shut None none mid is = subst (IsShut (texts_in k) a a.entries text) (sym is) (record {
     entries = up.entries;
     gone = up.gone;
     before = λ x most.
         let zero_is : last_epoch a.entries ≡ 0 = ap last_epoch none in
         planned_none (texts_in k) (plan_of old.plans kind.Epoch x) (bytes_in a x) (up.after x (omega (arith, zero_is)))
-        ∙ (ap (λ (l : List Entry). epoch_bytes (in_epoch l x)) none ∙ ap (λ (l : List Entry). epoch_bytes (in_epoch (without_text l text) x)) (sym none));
+        ∙ (ap (λ (l : List Entry). epoch_bytes a.config.form (in_epoch l x)) none ∙ ap (λ (l : List Entry). epoch_bytes a.config.form (in_epoch (without_text l text) x)) (sym none));
     after = λ x high. up.after x (omega (arith, high));
     map = up.map;
     whole = up.whole;
+    own_form = up.form;
   })
   all_shut (Some c) current mid closes = shut (texts_in k) v.root a a.entries text old up c current (λ x low. refl) (λ x low. refl) closes.0 closes.1 closes.2 mid closes.3
 
@@ -199,16 +202,16 @@ module _ (k : Content) (v : StoreState) (cache : List ℕ) (a : Archive) (own : 
     abbrev plan : Plan
     plan = finishes.2.0
 
-    of_map : PlansMap form.Sha1 map count mid.gone plan
-    of_map = finishes.2.1
+    of_map : PlansMap a.config.form map count mid.gone plan
+    of_map = subst (λ (g : Form). PlansMap g map count mid.gone plan) up.form finishes.2.1
 
-    new_is : new ≡ record { plans = mid.plans ++ plan ∷ []; entries = mid.entries; gone = mid.gone; current = mid.current }
+    new_is : new ≡ record { plans = mid.plans ++ plan ∷ []; entries = mid.entries; gone = mid.gone; current = mid.current; form = mid.form }
     new_is = finishes.2.2.0
 
     plans_are : new.plans ≡ mid.plans ++ plan ∷ []
     plans_are = ap (λ (p : Planning). p.plans) new_is
 
-    pub entries_are : new.entries ≡ stored_after [] (without_text a.entries text)
+    pub entries_are : new.entries ≡ stored_after a.config.form [] (without_text a.entries text)
     entries_are = ap (λ (p : Planning). p.entries) new_is ∙ shut_so.entries
 
     abbrev t : Texts
@@ -222,15 +225,15 @@ module _ (k : Content) (v : StoreState) (cache : List ℕ) (a : Archive) (own : 
         ap (texts_in k) map_is
         ∙ (reads (map_file_of v.root) (map_isnt_root v.root.map.generation) ∙ text_named v.root (parts_of a cache) (map_file_of v.root) (map_is_named v.root v.root.map.generation refl))
 
-    begins : BeginsWithRecords form.Sha1 (records_of a) (texts_in k map)
+    begins : BeginsWithRecords a.config.form (records_of a) (texts_in k map)
     begins =
-        let long : 28 * length (records_of a) ≡ length (map_bytes a) = ap (λ (n : ℕ). 28 * n) (records_few a) ∙ sym (map_length a own.keeps.valid) in
+        let long : record_size a.config.form * length (records_of a) ≡ length (map_bytes a) = ap (λ (n : ℕ). record_size a.config.form * n) (records_few a) ∙ sym (map_length a own.keeps.valid) in
         record {
           valid = records_valid a own.keeps.valid;
-          spelled = ap (take (28 * length (records_of a))) map_text ∙ (ap (λ (n : ℕ). take n (map_bytes a)) long ∙ take-length (map_bytes a));
+          spelled = ap (take (record_size a.config.form * length (records_of a))) map_text ∙ (ap (λ (n : ℕ). take n (map_bytes a)) long ∙ take-length (map_bytes a));
         }
 
-    map_planned_so : IsPlanWhole (texts_in k) plan × (written_by (texts_in k) plan ≡ map_without form.Sha1 mid.gone (records_of a))
+    map_planned_so : IsPlanWhole (texts_in k) plan × (written_by (texts_in k) plan ≡ map_without a.config.form mid.gone (records_of a))
     map_planned_so = of_map.written (texts_in k) (records_of a) (records_few a ∙ (ap (λ (n : ℕ). n - 1) (sym own.keeps.names.next) ∙ sym count_is)) begins
 
     map_part : (n : ℕ) (b : Bool) → (n == 0) ≡ b → planned (texts_in k) (plan_of (mid.plans ++ plan ∷ []) kind.Map n) (if b then map_bytes a else []) ≡ (if b then map_bytes (without_entries a text) else [])
@@ -239,7 +242,7 @@ module _ (k : Content) (v : StoreState) (cache : List ℕ) (a : Archive) (own : 
         let here : plan_of (mid.plans ++ plan ∷ []) kind.Map n ≡ Some plan = of_more mid.plans (plan ∷ []) kind.Map n (shut_so.map n) ∙ of_first plan [] kind.Map n (is_of_own plan kind.Map n of_map.kind (of_map.number ∙ sym n_is)) in
         ap (λ (o : Option Plan). planned (texts_in k) o (map_bytes a)) here
         ∙ (ap (λ (target : Target). bytes_by target (map_bytes a) (written_by (texts_in k) plan)) of_map.target
-        ∙ (map_planned_so.1 ∙ (ap (λ (gone : List ℕ). map_without form.Sha1 gone (records_of a)) shut_so.gone ∙ map_same a text own.keeps.valid)))
+        ∙ (map_planned_so.1 ∙ (ap (λ (gone : List ℕ). map_without a.config.form gone (records_of a)) shut_so.gone ∙ map_same a text own.keeps.valid)))
     map_part n false other =
         let apart : n ≢ 0 = (λ is. (let wrong = same_test n 0 is in let no : true ≡ false = sym wrong ∙ other in cc)) in
         planned_none (texts_in k) (plan_of (mid.plans ++ plan ∷ []) kind.Map n) []
@@ -252,7 +255,7 @@ module _ (k : Content) (v : StoreState) (cache : List ℕ) (a : Archive) (own : 
           | inl above ↦
               let none = all_weaker (λ (f : Entry). f.epoch ≤ last_epoch a.entries) (λ (f : Entry). f.epoch ≢ n) a.entries (λ f low same. absurd (omega (arith, low, same, above))) (none_later a.entries) in
               planned_none (texts_in k) (plan_of mid.plans kind.Epoch n) (bytes_in a n) (shut_so.after n above)
-              ∙ (ap epoch_bytes (in_epoch_none a.entries n none) ∙ ap epoch_bytes (sym (in_epoch_none (without_text a.entries text) n (without_all (λ (f : Entry). f.epoch ≢ n) a.entries text none))))
+              ∙ (ap (epoch_bytes a.config.form) (in_epoch_none a.entries n none) ∙ ap (epoch_bytes a.config.form) (sym (in_epoch_none (without_text a.entries text) n (without_all (λ (f : Entry). f.epoch ≢ n) a.entries text none))))
           | inr most ↦ shut_so.before n (omega (arith, most))
         ]
 

@@ -88,7 +88,7 @@ module _ (v : StoreState) (blob : ObjectId) (p : Planning) (purge : PlansPurge v
       (some.0, some.1, purge.anew there.index some.0 there.here)
 
   -- An epoch whose plan writes it anew.
-  made_anew : (new : Root) (plans : List Plan) (next : ℕ) (after : IsRootAfter v.root plans next new) (e : ℕ) → e < 64 → (q : Plan) → plan_of plans kind.Epoch e ≡ Some q → q.target ≡ Anew → IsMadeAnew new e
+  made_anew : (new : Root) (plans : List Plan) (next : ℕ) (after : IsRootAfter v.root plans next v.root.config.form new) (e : ℕ) → e < 64 → (q : Plan) → plan_of plans kind.Epoch e ≡ Some q → q.target ≡ Anew → IsMadeAnew new e
   made_anew new plans next after e below q is anew =
       let old = get_or v.root.epochs e no_place in
       let n = v.root.sequence + 1 in
@@ -97,7 +97,7 @@ module _ (v : StoreState) (blob : ObjectId) (p : Planning) (purge : PlansPurge v
       subst (λ (x : Place). (x.generation ≡ new.sequence) ⊎ (x ≡ no_place)) (sym place_is)
       (subst (λ (m : ℕ). ((place_anew n (plan_count q)).generation ≡ m) ⊎ (place_anew n (plan_count q) ≡ no_place)) (sym after.sequence) (anew_goes n (plan_count q)))
 
-  stays : (new : Root) (plans : List Plan) (next : ℕ) (after : IsRootAfter v.root plans next new) (e : ℕ) → e < 64 → plan_of plans kind.Epoch e ≡ None → get_or new.epochs e no_place ≡ get_or v.root.epochs e no_place
+  stays : (new : Root) (plans : List Plan) (next : ℕ) (after : IsRootAfter v.root plans next v.root.config.form new) (e : ℕ) → e < 64 → plan_of plans kind.Epoch e ≡ None → get_or new.epochs e no_place ≡ get_or v.root.epochs e no_place
   stays new plans next after e below is = after.epochs e below ∙ ap (λ (o : Option Plan). place_planned (v.root.sequence + 1) o (get_or v.root.epochs e no_place)) is
 
   -- Epochs that lose no entry keep their files, and the others don't.

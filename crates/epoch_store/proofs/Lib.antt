@@ -25,3 +25,4 @@ mod Texts
 mod TextsOpened
 mod Unique
 mod WholeEpochs
+pub mod OwnForm

@@ -3,7 +3,6 @@ use Rattle.std.specs.Prelude.{◌≡◌, ◌+◌, ◌==◌, ℕ, suc, Bool, ◌&
 use Rattle.std.proofs.Common.{◌∙◌, sym, ap, arith}
 use Rattle.std.proofs.lemmas.List.Folds.{list_any-append}
 use Rattle.arch_base.specs.declared.ids.ObjectId.{ObjectId}
-use Rattle.arch_base.specs.declared.ids.Form.TheVariants as form
 use Rattle.arch_base.specs.Ids.{id_eq}
 use Rattle.disk_model.specs.declared.name.FileKind.TheVariants as kind
 use Rattle.disk_model.specs.declared.name.FileName.{FileName}
@@ -35,7 +34,7 @@ pub finished_some : (old : Planning) (map : FileName) (count : ℕ) (new : Plann
 finished_some old map count new finishes e =
     ap (λ (p : Planning). is_some (plan_of p.plans kind.Epoch e)) finishes.2.2.0
     ∙ (ap (λ (o : Option Plan). is_some o) (of_others finishes.0.plans finishes.2.0 kind.Epoch e (other_part finishes.2.0 kind.Epoch e (λ k_is n_is. epoch_isnt_map (sym of_map.kind ∙ k_is)))) ∙ by old.current finishes.1) where
-      of_map : PlansMap form.Sha1 map count finishes.0.gone finishes.2.0
+      of_map : PlansMap old.form map count finishes.0.gone finishes.2.0
       of_map = finishes.2.1
 
       by : (current : Option Planned) → ClosesLast old current finishes.0 → is_some (plan_of finishes.0.plans kind.Epoch e) ≡ (is_some (plan_of old.plans kind.Epoch e) || is_changed current e)

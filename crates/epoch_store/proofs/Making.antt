@@ -10,6 +10,7 @@ use Rattle.root_slots.specs.Valid.{IsRoot, PlaceIsValid, no_place}
 use Rattle.disk_model.specs.declared.disk.Disk.{Ghosts as Disk}
 use Rattle.disk_model.specs.declared.name.FileName.{FileName}
 use Rattle.disk_model.specs.Moments.{LeavesOnly, joined, weaker}
+use Rattle.number_map.specs.Sizes.{sizes_none}
 use Rattle.disk_model.specs.Disk.{File, Files, Kept, Content, Image, BothTold, WhereTold, MaySurvive, Survival, remove_sure, exact, bytes_of}
 use Rattle.disk_model.specs.Laws.{MaySurvive-Within, MaySurvive-exact}
 use Rattle.store_finding.specs.Listing.{AreAllNames}
@@ -148,7 +149,7 @@ first_is_root config valid = record {
   next_least = omega arith;
   next_most = omega arith;
   map_gen = omega arith;
-  map_length = omega arith;
+  map_length = sym (sizes_none config.form);
   epochs = λ i d below. subst (PlaceIsValid 1) (sym (get_or-replicate 64 i no_place d (omega (arith, below, length-replicate {A = Place} 64 no_place)))) (record { generation = omega arith; empty = λ none. refl });
   cache = record { generation = omega arith; empty = λ none. refl };
 }

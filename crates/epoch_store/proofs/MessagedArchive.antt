@@ -5,8 +5,10 @@ use Rattle.std.proofs.lemmas.Bool.Decides.{nat_tests}
 use Rattle.disk_model.specs.declared.name.FileKind.{FileKind}
 use Rattle.disk_model.specs.declared.name.FileKind.TheVariants as kind
 use Rattle.arch_base.specs.declared.ids.ObjectId.{ObjectId}
-use Rattle.arch_base.specs.declared.ids.Form.TheVariants as form
-use Rattle.arch_base.specs.Ids.{id_bytes}
+use Rattle.arch_base.specs.declared.ids.Form.{Form}
+use Rattle.arch_base.specs.declared.config.Config.{Config}
+use Rattle.arch_base.specs.Ids.{id_bytes, id_size}
+use Rattle.disk_model.specs.Sizes.{record_size}
 use Rattle.git_objects.proofs.ObjectIds.{IsObjectId-id_of}
 use Rattle.git_objects.specs.Objects.{blob_id_of, blob_spelling}
 use Rattle.git_objects.specs.declared.entry_kind.EntryKind.TheVariants.{Message}
@@ -83,8 +85,8 @@ module _ (root : Root) (cache : List ℕ) (a b : Archive) (old : Planning) (next
   option_more n None more is = ap (λ (w : List ℕ). bytes_in a n ++ w) (written_with_bytes texts (no_plan kind.Epoch n Behind) more (none_valid n))
   option_more n (Some p) more is = some_more kind.Epoch n p more is
 
-  module _ (e : ℕ) (text : List ℕ) (moment : ℕ) (piece line : List ℕ) (piece_is : piece ≡ front_at form.Sha1 (length (bytes_in b e)) ++ bytes_after form.Sha1 (last_commit None (in_epoch b.entries e)) (record { kind = Message; text = text; moment = moment }))
-      (line_is : line ≡ record_bytes (record { number = next; epoch = e; blob = blob_id_of form.Sha1 text })) (mp : Plan) (map_is : plan_of old.plans kind.Map 0 ≡ Some mp) where
+  module _ (e : ℕ) (text : List ℕ) (moment : ℕ) (piece line : List ℕ) (piece_is : piece ≡ front_at b.config.form (length (bytes_in b e)) ++ bytes_after b.config.form (last_commit b.config.form None (in_epoch b.entries e)) (record { kind = Message; text = text; moment = moment }))
+      (line_is : line ≡ record_bytes (record { number = next; epoch = e; blob = blob_id_of b.config.form text })) (mp : Plan) (map_is : plan_of old.plans kind.Map 0 ≡ Some mp) where
     abbrev new : Entry
     new = message b.next e text moment
 
@@ -113,7 +115,7 @@ module _ (root : Root) (cache : List ℕ) (a b : Archive) (old : Planning) (next
         ap (λ (o : Option Plan). planned texts o (map_bytes a)) (here_record mid line mp map_mid)
         ∙ (some_more kind.Map 0 mp line map_is
         ∙ (ap (λ (l : List ℕ). l ++ line) (sym (part_of kind.Map 0 (Some mp) map_is) ∙ made.parts kind.Map 0)
-        ∙ (ap (λ (l : List ℕ). map_bytes b ++ l) (line_is ∙ ap (λ (n : ℕ). record_bytes (record { number = n; epoch = e; blob = blob_id_of form.Sha1 text })) (sym made.next_is))
+        ∙ (ap (λ (l : List ℕ). map_bytes b ++ l) (line_is ∙ ap (λ (n : ℕ). record_bytes (record { number = n; epoch = e; blob = blob_id_of b.config.form text })) (sym made.next_is))
         ∙ sym (map_grows b e text moment made.valid.next_least made.valid.below))))
 
     part : (k : FileKind) (n : ℕ) → rewritten root all (parts_of a cache) k n ≡ parts_of (with_entry b e text moment) [] k n
@@ -134,20 +136,20 @@ module _ (root : Root) (cache : List ℕ) (a b : Archive) (old : Planning) (next
       none_there n false is apart = ap (λ (t : Bool). if t then map_bytes b else []) is ∙ ap (λ (t : Bool). if t then map_bytes (with_entry b e text moment) else []) (sym is)
 
     -- The archive with the message is planned.
-    pub archive_more : IsArchive (with_entry b e text moment) → (gone : List ℕ) (current : Option Planned) (entries : List StoredEntry) → entries ≡ old.entries ++ stored_at b.entries new ∷ [] → PlansArchive root cache a (with_entry b e text moment) (record { plans = all; entries = entries; gone = gone; current = current }) (next + 1)
-    archive_more is gone current entries entries_are = record {
+    pub archive_more : IsArchive (with_entry b e text moment) → (gone : List ℕ) (current : Option Planned) (form : Form) (entries : List StoredEntry) → entries ≡ old.entries ++ stored_at b.config.form b.entries new ∷ [] → PlansArchive root cache a (with_entry b e text moment) (record { plans = all; entries = entries; gone = gone; current = current; form = form }) (next + 1)
+    archive_more is gone current form entries entries_are = record {
       valid = is;
       config = made.config;
       next_is = ap (λ (n : ℕ). n + 1) made.next_is;
-      entries = entries_are ∙ (ap (λ (l : List StoredEntry). l ++ stored_at b.entries new ∷ []) made.entries ∙ sym (stored_more [] b.entries new));
+      entries = entries_are ∙ (ap (λ (l : List StoredEntry). l ++ stored_at b.config.form b.entries new ∷ []) made.entries ∙ sym (stored_more b.config.form [] b.entries new));
       parts = part;
       whole = each_record (IsPlanWhole texts) mid line (each_with (IsPlanWhole texts) old.plans e piece made.whole (λ p whole. whole_with_bytes texts p piece whole) (λ none. whole_with_bytes texts (no_plan kind.Epoch e Behind) piece (none_whole texts e))) (λ p whole. whole_with_bytes texts p line whole);
     }
 
 -- One more message is planned at the next place.
 module _ (v : StoreState) (old : Planning) (p : NextPlace) (text : List ℕ) (moment : ℕ) (piece : List ℕ) (blob : ObjectId) (stored : StoredEntry) (valid : AreValid old.plans) (place : IsPlaceAfter v.root old p) (small : p.epoch ≤ 63) (long : p.length ≡ length_after v.root old.plans p.epoch) (short : p.length < 2 ^ 62)
-    (piece_is : piece ≡ front_at form.Sha1 p.length ++ bytes_after form.Sha1 p.parent (record { kind = Message; text = text; moment = moment })) (blob_is : blob ≡ blob_id_of form.Sha1 text)
-    (stored_is : (before : List Entry) → EntriesEndAt before p → stored ≡ stored_at before (record { kind = Message; number = v.root.next; epoch = p.epoch; text = text; moment = moment })) (mp : Plan) (map_is : plan_of (plans_with old.plans p.epoch piece) kind.Map 0 ≡ Some mp) where
+    (piece_is : piece ≡ front_at v.root.config.form p.length ++ bytes_after v.root.config.form p.parent (record { kind = Message; text = text; moment = moment })) (blob_is : blob ≡ blob_id_of v.root.config.form text)
+    (stored_is : (before : List Entry) → EntriesEndAt v.root.config.form before p → stored ≡ stored_at v.root.config.form before (record { kind = Message; number = v.root.next; epoch = p.epoch; text = text; moment = moment })) (mp : Plan) (map_is : plan_of (plans_with old.plans p.epoch piece) kind.Map 0 ≡ Some mp) where
   abbrev written : EpochEntry
   written = record { kind = Message; text = text; moment = moment }
 
@@ -163,45 +165,51 @@ module _ (v : StoreState) (old : Planning) (p : NextPlace) (text : List ℕ) (mo
     room : plan_of old.plans kind.Epoch p.epoch ≡ None → (get_or v.root.epochs p.epoch no_place).length < 2 ^ 62
     room none = subst (λ (n : ℕ). n < 2 ^ 62) (long ∙ ap (length_by (get_or v.root.epochs p.epoch no_place).length) none) short
 
-    size : length record_line ≡ 28
-    size = record_length form.Sha1 (record { number = v.root.next; epoch = p.epoch; blob = blob }) (subst (λ (i : ObjectId). length (id_bytes i) ≡ 20) (sym blob_is) (IsObjectId-id_of form.Sha1 (blob_spelling text)).len)
+    size : length record_line ≡ record_size v.root.config.form
+    size = record_length v.root.config.form (record { number = v.root.next; epoch = p.epoch; blob = blob }) (subst (λ (i : ObjectId). length (id_bytes i) ≡ id_size v.root.config.form) (sym blob_is) (IsObjectId-id_of v.root.config.form (blob_spelling text)).len)
 
   -- They write the archive with the message.
-  pub message_archive : (cache : List ℕ) (a b : Archive) → PlansArchive v.root cache a b old v.root.next → NamesArchive v.root a → AreAnew old.plans → IsArchive (with_entry b (new_epoch b) text moment) → (gone : List ℕ) (current : Option Planned) (entries : List StoredEntry) → entries ≡ old.entries ++ stored ∷ []
-      → PlansArchive v.root cache a (with_entry b (new_epoch b) text moment) (record { plans = all_plans; entries = entries; gone = gone; current = current }) (v.root.next + 1)
-  message_archive cache a b made names anew is gone current entries entries_are =
-      subst (λ (e : ℕ). PlansArchive v.root cache a (with_entry b e text moment) (record { plans = all_plans; entries = entries; gone = gone; current = current }) (v.root.next + 1)) at.0
-      (archive_more v.root cache a b old v.root.next made names valid p.epoch text moment piece record_line here_piece (ap (λ (i : ObjectId). record_bytes (record { number = v.root.next; epoch = p.epoch; blob = i })) blob_is) mp
+  pub message_archive : (cache : List ℕ) (a b : Archive) → PlansArchive v.root cache a b old v.root.next → NamesArchive v.root a → AreAnew old.plans → IsArchive (with_entry b (new_epoch b) text moment) → (gone : List ℕ) (current : Option Planned) (form : Form) (entries : List StoredEntry) → entries ≡ old.entries ++ stored ∷ []
+      → PlansArchive v.root cache a (with_entry b (new_epoch b) text moment) (record { plans = all_plans; entries = entries; gone = gone; current = current; form = form }) (v.root.next + 1)
+  message_archive cache a b made names anew is gone current form entries entries_are =
+      subst (λ (e : ℕ). PlansArchive v.root cache a (with_entry b e text moment) (record { plans = all_plans; entries = entries; gone = gone; current = current; form = form }) (v.root.next + 1)) at.0
+      (archive_more v.root cache a b old v.root.next made names valid p.epoch text moment piece record_line here_piece (ap (λ (i : ObjectId). record_bytes (record { number = v.root.next; epoch = p.epoch; blob = i })) (blob_is ∙ ap (λ (g : Form). blob_id_of g text) form_is)) mp
       (sym (other_with old.plans p.epoch piece kind.Map 0 (λ k_is n_is. epoch_isnt_map k_is)) ∙ map_is)
-      (subst (λ (e : ℕ). IsArchive (with_entry b e text moment)) (sym at.0) is) gone current entries here_entries) where
-        at : (p.epoch ≡ new_epoch b) × (p.length ≡ length (bytes_in b p.epoch)) × (p.parent ≡ last_commit None (in_epoch b.entries p.epoch))
+      (subst (λ (e : ℕ). IsArchive (with_entry b e text moment)) (sym at.0) is) gone current form entries here_entries) where
+        form_is : v.root.config.form ≡ b.config.form
+        form_is = ap (λ (c : Config). c.form) (names.config ∙ sym made.config)
+
+        at : (p.epoch ≡ new_epoch b) × (p.length ≡ length (bytes_in b p.epoch)) × (p.parent ≡ last_commit b.config.form None (in_epoch b.entries p.epoch))
         at = place b made.valid (names.config ∙ sym made.config) made.entries (length_is v.root cache a b old v.root.next made names valid anew)
 
-        here_piece : piece ≡ front_at form.Sha1 (length (bytes_in b p.epoch)) ++ bytes_after form.Sha1 (last_commit None (in_epoch b.entries p.epoch)) written
-        here_piece = piece_is ∙ (ap (λ (n : ℕ). front_at form.Sha1 n ++ bytes_after form.Sha1 p.parent written) at.1 ∙ ap (λ (c : Option ObjectId). front_at form.Sha1 (length (bytes_in b p.epoch)) ++ bytes_after form.Sha1 c written) at.2)
+        here_piece : piece ≡ front_at b.config.form (length (bytes_in b p.epoch)) ++ bytes_after b.config.form (last_commit b.config.form None (in_epoch b.entries p.epoch)) written
+        here_piece =
+            piece_is
+            ∙ (ap (λ (g : Form). front_at g p.length ++ bytes_after g p.parent written) form_is
+            ∙ (ap (λ (n : ℕ). front_at b.config.form n ++ bytes_after b.config.form p.parent written) at.1 ∙ ap (λ (c : Option ObjectId). front_at b.config.form (length (bytes_in b p.epoch)) ++ bytes_after b.config.form c written) at.2))
 
-        here_entries : entries ≡ old.entries ++ stored_at b.entries (message b.next p.epoch text moment) ∷ []
+        here_entries : entries ≡ old.entries ++ stored_at b.config.form b.entries (message b.next p.epoch text moment) ∷ []
         here_entries =
             entries_are
-            ∙ ap (λ (s : StoredEntry). old.entries ++ s ∷ []) (stored_is b.entries (record { length_is = at.1; parent = at.2 }) ∙ ap (λ (n : ℕ). stored_at b.entries (message n p.epoch text moment)) (sym made.next_is))
+            ∙ ap (λ (s : StoredEntry). old.entries ++ s ∷ []) (stored_is b.entries (subst (λ (g : Form). EntriesEndAt g b.entries p) (sym form_is) (record { length_is = at.1; parent = at.2 })) ∙ (ap (λ (g : Form). stored_at g b.entries (message v.root.next p.epoch text moment)) form_is ∙ ap (λ (n : ℕ). stored_at b.config.form b.entries (message n p.epoch text moment)) (sym made.next_is)))
 
 -- What is written of a message isn't empty.
-piece_some : (at : ℕ) (parent : Option ObjectId) (e : EpochEntry) (piece : List ℕ) → piece ≡ front_at form.Sha1 at ++ bytes_after form.Sha1 parent e → 0 < length piece
-piece_some at parent e piece is =
+piece_some : (form : Form) (at : ℕ) (parent : Option ObjectId) (e : EpochEntry) (piece : List ℕ) → piece ≡ front_at form at ++ bytes_after form parent e → 0 < length piece
+piece_some form at parent e piece is =
     let size = ap length is in
-    let parts = length-append (front_at form.Sha1 at) (bytes_after form.Sha1 parent e) in
-    let own = some_bytes form.Sha1 parent e in
+    let parts = length-append (front_at form at) (bytes_after form parent e) in
+    let own = some_bytes form parent e in
     omega (arith, size, parts, own)
 
 -- So all of it is planned.
 pub message_planned : (v : StoreState) (old one two : Planning) (p : NextPlace) (text : List ℕ) (moment : ℕ) (piece : List ℕ) (blob : ObjectId) (stored : StoredEntry) → IsPlaceAfter v.root old p → p.epoch ≤ 63 → p.length ≡ length_after v.root old.plans p.epoch → p.length < 2 ^ 62
-    → piece ≡ front_at form.Sha1 p.length ++ bytes_after form.Sha1 p.parent (record { kind = Message; text = text; moment = moment }) → blob ≡ blob_id_of form.Sha1 text
-    → ((before : List Entry) → EntriesEndAt before p → stored ≡ stored_at before (record { kind = Message; number = v.root.next; epoch = p.epoch; text = text; moment = moment })) → one ≡ record { plans = plans_with old.plans p.epoch piece; entries = old.entries; gone = old.gone; current = old.current } → AreValid old.plans
-    → AppendsRecord one (record { number = v.root.next; epoch = p.epoch; blob = blob }) two → AreValid two.plans → (plans : List Plan) (before : List StoredEntry) (gone : List ℕ) (current : Option Planned) → record { plans = plans; entries = before; gone = gone; current = current } ≡ two
-    → (entries : List StoredEntry) → entries ≡ before ++ stored ∷ [] → stored.seen.kind ≡ Message → stored.number ≡ v.root.next → own_id text ≡ Some stored.seen.id → stored.seen.blob ≡ blob_id_of form.Sha1 text → stored.seen.content ≡ content_id_of text → stored.epoch ≡ p.epoch
+    → piece ≡ front_at v.root.config.form p.length ++ bytes_after v.root.config.form p.parent (record { kind = Message; text = text; moment = moment }) → blob ≡ blob_id_of v.root.config.form text
+    → ((before : List Entry) → EntriesEndAt v.root.config.form before p → stored ≡ stored_at v.root.config.form before (record { kind = Message; number = v.root.next; epoch = p.epoch; text = text; moment = moment })) → one ≡ record { plans = plans_with old.plans p.epoch piece; entries = old.entries; gone = old.gone; current = old.current; form = old.form } → AreValid old.plans
+    → AppendsRecord one (record { number = v.root.next; epoch = p.epoch; blob = blob }) two → AreValid two.plans → (plans : List Plan) (before : List StoredEntry) (gone : List ℕ) (current : Option Planned) (form : Form) → record { plans = plans; entries = before; gone = gone; current = current; form = form } ≡ two
+    → (entries : List StoredEntry) → entries ≡ before ++ stored ∷ [] → stored.seen.kind ≡ Message → stored.number ≡ v.root.next → own_id text ≡ Some stored.seen.id → stored.seen.blob ≡ blob_id_of v.root.config.form text → stored.seen.content ≡ content_id_of text → stored.epoch ≡ p.epoch
     → (end_ : ℕ) → EntryLiesIn p.length end_ stored.seen → end_ ≡ p.length + length piece → (LieFrom 0 0 old.entries → AreUpToEpoch p.epoch old.entries)
-    → PlansEdit v old text moment (record { plans = plans; entries = entries; gone = gone; current = current })
-message_planned v old one two p text moment piece blob stored place small long short piece_is blob_is stored_is one_is valid appends valid_two plans before gone current two_is entries entries_are kind_is number_is id_is stored_blob content_is epoch_is end_ lies end_is last =
+    → PlansEdit v old text moment (record { plans = plans; entries = entries; gone = gone; current = current; form = form })
+message_planned v old one two p text moment piece blob stored place small long short piece_is blob_is stored_is one_is valid appends valid_two plans before gone current form two_is entries entries_are kind_is number_is id_is stored_blob content_is epoch_is end_ lies end_is last =
     let line = record_bytes (record { number = v.root.next; epoch = p.epoch; blob = blob }) in
     let one_plans : one.plans ≡ plans_with old.plans p.epoch piece = ap (λ (q : Planning). q.plans) one_is in
     let two_plans : two.plans ≡ with_record (plans_with old.plans p.epoch piece) line = ap (λ (q : Planning). q.plans) appends.0 ∙ ap (λ (l : List Plan). with_record l line) one_plans in
@@ -225,7 +233,7 @@ message_planned v old one two p text moment piece blob stored place small long s
       content = content_is;
       small = omega (arith, epoch_is, small);
       piece = piece;
-      some = piece_some p.length p.parent (record { kind = Message; text = text; moment = moment }) piece piece_is;
+      some = piece_some v.root.config.form p.length p.parent (record { kind = Message; text = text; moment = moment }) piece piece_is;
       own = own_is;
       others = others_are;
       ready = λ ready.
@@ -236,6 +244,6 @@ message_planned v old one two p text moment piece blob stored place small long s
           let last_is : LieFrom 0 0 old.entries → AreUpToEpoch stored.epoch old.entries = λ lie. subst (λ (n : ℕ). AreUpToEpoch n old.entries) (sym epoch_is) (last lie) in
           subst (λ (es : List StoredEntry). AreNamedAfter v.root plans es) (sym all) (planned_more v.root old.plans plans old.entries stored piece p.length end_ anew own_is others_are long_is end_is last_is lies named);
       archive = λ cache a b made names anew is.
-          subst (λ (l : List Plan). PlansArchive v.root cache a (with_entry b (new_epoch b) text moment) (record { plans = l; entries = entries; gone = gone; current = current }) (v.root.next + 1)) (sym plans_are)
-          (message_archive v old p text moment piece blob stored valid place small long short piece_is blob_is stored_is appends.1.0 map_is cache a b made names anew is gone current entries all);
+          subst (λ (l : List Plan). PlansArchive v.root cache a (with_entry b (new_epoch b) text moment) (record { plans = l; entries = entries; gone = gone; current = current; form = form }) (v.root.next + 1)) (sym plans_are)
+          (message_archive v old p text moment piece blob stored valid place small long short piece_is blob_is stored_is appends.1.0 map_is cache a b made names anew is gone current form entries all);
     }

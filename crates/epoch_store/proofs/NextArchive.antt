@@ -46,7 +46,7 @@ module _ (After : Root → Type 0) (parts : Parts) (cache : List ℕ) (b : Archi
     recovers_next image by = (root, record { valid = is.valid; names = names_next by.valid by.fits by.long; cache_fits = is.cache_fits root after; stands = subst (λ (ps : Parts). StandsFor root (texts_of root ps) image) same_parts by.stands })
 
     -- What the store has that keeps its entries.
-    pub store_next : (free : ℕ) (entries : List StoredEntry) (k : Option Content) → entries ≡ stored_after [] b.entries → IsOwnOfParts root (1 - free) parts k → IsStoreWith (record { root = root; slot = free; entries = entries }) cache b k
+    pub store_next : (free : ℕ) (entries : List StoredEntry) (k : Option Content) → entries ≡ stored_after b.config.form [] b.entries → IsOwnOfParts root (1 - free) parts k → IsStoreWith (record { root = root; slot = free; entries = entries }) cache b k
     store_next free entries None kept own = absurd own.on
     store_next free entries (Some k) kept own = record {
       keeps = record { valid = is.valid; names = names_next own.valid own.fits own.long; kept = kept };

@@ -14,7 +14,7 @@ use Rattle.store_planning.specs.Dropping.{IsStoreEnd}
 use Rattle.store_finding.specs.Kept.{stored_after}
 use Rattle.epoch_store.proofs.Ends.{epoch_after, epoch_here, none_after}
 
-module _ (root : Root) (p : Planning) (end_ : End) (ends : (b : Archive) → IsArchive b → p.entries ≡ stored_after [] b.entries → IsStoreEnd b end_) where
+module _ (root : Root) (p : Planning) (end_ : End) (ends : (b : Archive) → IsArchive b → p.entries ≡ stored_after b.config.form [] b.entries → IsStoreEnd b end_) where
   -- In the last epoch.
   pub place_here : (count : ℕ) → count ≡ length_after root p.plans end_.epoch → end_.epoch ≤ 63 → (end_.epoch ≡ 63) ⊎ (count < root.config.limit) → IsPlaceAfter root p (record { epoch = end_.epoch; generation = 0; length = count; parent = end_.parent })
   place_here count count_is small takes = λ b valid config kept long.
@@ -22,7 +22,7 @@ module _ (root : Root) (p : Planning) (end_ : End) (ends : (b : Archive) → IsA
       let long_is : count ≡ length (bytes_in b end_.epoch) = count_is ∙ long end_.epoch (omega (arith, small)) in (
         is.epoch ∙ sym (epoch_here b (by b config is long_is takes)),
         long_is,
-        is.parent ∙ ap (λ (e : ℕ). last_commit None (in_epoch b.entries e)) (sym is.epoch),
+        is.parent ∙ ap (λ (e : ℕ). last_commit b.config.form None (in_epoch b.entries e)) (sym is.epoch),
       ) where
         by : (b : Archive) → root.config ≡ b.config → IsStoreEnd b end_ → count ≡ length (bytes_in b end_.epoch) → (end_.epoch ≡ 63) ⊎ (count < root.config.limit) → (last_epoch b.entries ≡ 63) ⊎ (length (bytes_in b (last_epoch b.entries)) < b.config.limit)
         by b config is long_is (inl is63) = inl (sym is.epoch ∙ is63)
@@ -37,5 +37,5 @@ module _ (root : Root) (p : Planning) (end_ : End) (ends : (b : Archive) → IsA
       let before_long : before ≡ length (bytes_in b (last_epoch b.entries)) = before_is ∙ (long end_.epoch (omega (arith, low)) ∙ ap (λ (e : ℕ). length (bytes_in b e)) is.epoch) in (
         ap (λ (e : ℕ). e + 1) is.epoch ∙ sym (epoch_after b top (subst (λ (n : ℕ). b.config.limit ≤ n) before_long (subst (λ (c : Config). c.limit ≤ before) config full))),
         count_is ∙ long (end_.epoch + 1) (omega (arith, low)),
-        sym (ap (last_commit None) (ap (λ (e : ℕ). in_epoch b.entries (e + 1)) is.epoch ∙ none_after b)),
+        sym (ap (last_commit b.config.form None) (ap (λ (e : ℕ). in_epoch b.entries (e + 1)) is.epoch ∙ none_after b)),
       )

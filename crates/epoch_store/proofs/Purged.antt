@@ -10,11 +10,13 @@ use Rattle.std.proofs.lemmas.Slice.Eq.{bytes_eq-Decides}
 use Rattle.arch_base.specs.declared.ids.ObjectId.{ObjectId}
 use Rattle.disk_model.specs.Disk.{Content, BothTold, Unchanged, WhereTold}
 use Rattle.disk_model.specs.declared.name.FileName.{FileName}
+use Rattle.disk_model.specs.Sizes.{record_size}
 use Rattle.git_objects.specs.Objects.{blob_id_of}
 use Rattle.git_objects.specs.declared.entry_kind.EntryKind.{EntryKind}
 use Rattle.git_objects.specs.declared.entry_kind.EntryKind.TheVariants.{Message, Deletion}
 use Rattle.arch_base.specs.Counts.{RoseIf}
-use Rattle.arch_base.specs.declared.ids.Form.TheVariants as form
+use Rattle.arch_base.specs.declared.ids.Form.{Form}
+use Rattle.arch_base.specs.declared.config.Config.{Config}
 use Rattle.arch_base.specs.Ids.{id_eq}
 use Rattle.arch_base.proofs.IdOrder.{id_eq-Decides}
 use Rattle.root_slots.specs.declared.root.Root.{Root}
@@ -40,7 +42,7 @@ use Rattle.epoch_store.proofs.Finished.{entries_are, finished_without}
 use Rattle.epoch_store.proofs.Texts.{kept_found}
 
 -- Before the first entry.
-pub first_none : (v : StoreState) (blob : ObjectId) (content : Option Content) → WhereTold (PlansFirst v blob 0 no_planning) content
+pub first_none : (v : StoreState) (blob : ObjectId) (content : Option Content) → WhereTold (PlansFirst v blob 0 (no_planning v.root.config.form)) content
 first_none v blob None = tt
 first_none v blob (Some k) = λ cache a text own picks. record {
   entries = refl;
@@ -50,10 +52,11 @@ first_none v blob (Some k) = λ cache a text own picks. record {
   map = λ x. refl;
   whole = λ i p here. absurd (let wrong : None ≡ Some p = here in cc);
   current = refl;
+  form = ap (λ (c : Config). c.form) own.keeps.names.config;
 }
 
-pub plans_none : (root : Root) → ArePlansIn root no_planning
-plans_none root = record { each = λ i p here. absurd (let wrong : None ≡ Some p = here in cc); current = tt }
+pub plans_none : (root : Root) → ArePlansIn root (no_planning root.config.form)
+plans_none root = record { each = λ i p here. absurd (let wrong : None ≡ Some p = here in cc); current = tt; form = refl }
 
 -- An entry of a store at an index.
 pub entry_at : (v : StoreState) (root : Root) (slot : Slot) (es items : List StoredEntry) (i : ℕ) (e : StoredEntry) → ◌≡◌ {A = StoreState} (record { root = root; slot = slot_number slot; entries = es }) v → items ≡ es → i < length items → e ≡ get_or items i e → slice_get v.entries i ≡ Some e
@@ -66,27 +69,27 @@ pub rose_later_than : (P : Type 0) (old mid new : ℕ) → mid ≡ old → RoseI
 rose_later_than P old mid new same rose = subst (λ (n : ℕ). RoseIf P n new) same rose
 
 -- The next entry of an archive, and what is kept of it.
-pub record IsNth (before es : List Entry) (n : ℕ) (s : StoredEntry) : Type 0 where
+pub record IsNth (form : Form) (before es : List Entry) (n : ℕ) (s : StoredEntry) : Type 0 where
   pub entry : Entry
   pub is : es ≡ take n es ++ entry ∷ drop (suc n) es
   pub more : take (suc n) es ≡ take n es ++ entry ∷ []
-  pub kept : s ≡ stored_at (before ++ take n es) entry
+  pub kept : s ≡ stored_at form (before ++ take n es) entry
 
-nth : (before es : List Entry) (n : ℕ) (s : StoredEntry) → slice_get (stored_after before es) n ≡ Some s → IsNth before es n s
-nth before [] n s here = absurd (let less = slice_get_within {A = StoredEntry} [] n s here in omega (arith, less))
-nth before (e ∷ es) zero s here = record {
+nth : (form : Form) (before es : List Entry) (n : ℕ) (s : StoredEntry) → slice_get (stored_after form before es) n ≡ Some s → IsNth form before es n s
+nth form before [] n s here = absurd (let less = slice_get_within {A = StoredEntry} [] n s here in omega (arith, less))
+nth form before (e ∷ es) zero s here = record {
   entry = e;
   is = refl;
   more = refl;
-  kept = sym (same_Some (stored_at before e) s here) ∙ ap (λ (b : List Entry). stored_at b e) (sym (append-nil before));
+  kept = sym (same_Some (stored_at form before e) s here) ∙ ap (λ (b : List Entry). stored_at form b e) (sym (append-nil before));
 }
-nth before (e ∷ es) (suc n) s here =
-    let r = nth (before ++ e ∷ []) es n s here in
+nth form before (e ∷ es) (suc n) s here =
+    let r = nth form (before ++ e ∷ []) es n s here in
     record {
       entry = r.entry;
       is = ap (λ (l : List Entry). e ∷ l) r.is;
       more = ap (λ (l : List Entry). e ∷ l) r.more;
-      kept = r.kept ∙ ap (λ (b : List Entry). stored_at b r.entry) (append_assoc before (e ∷ []) (take n es));
+      kept = r.kept ∙ ap (λ (b : List Entry). stored_at form b r.entry) (append_assoc before (e ∷ []) (take n es));
     }
 
 -- Contents that agree at each name are one.
@@ -99,21 +102,21 @@ pub first_more : (v : StoreState) (blob : ObjectId) (n : ℕ) (p new : Planning)
 first_more v blob n p new None mid stored file same here file_is up takes = tt
 first_more v blob n p new (Some k) None stored file same here file_is up takes = absurd same
 first_more v blob n p new (Some k) (Some m) stored file same here file_is up takes = λ cache a text own picks.
-    let at = nth [] a.entries n stored (ap (λ (l : List StoredEntry). slice_get l n) (sym own.keeps.kept) ∙ here) in
+    let at = nth a.config.form [] a.entries n stored (ap (λ (l : List StoredEntry). slice_get l n) (sym own.keeps.kept) ∙ here) in
     let takes_k = subst (λ (c : Content). PlansNext p file stored blob (Some c) new (Ok tt)) (one_content k m same) takes in
     let one = takes_k v cache a (take n a.entries) (drop (suc n) a.entries) at.entry text own at.is at.kept (file_is ∙ ap (λ (s : StoredEntry). epoch_file_of v.root s.epoch) at.kept) picks (up cache a text own picks) in
     let count : suc n ≡ n + 1 = omega arith in
     subst (λ (es : List Entry). IsPlannedUpTo (texts_in k) v.root a es text new) (sym at.more ∙ ap (λ (j : ℕ). take j a.entries) count) one
 
 -- All entries of a store are those of its archive.
-length_stored : (before es : List Entry) → length (stored_after before es) ≡ length es
-length_stored before [] = refl
-length_stored before (e ∷ es) = ap suc (length_stored (before ++ e ∷ []) es)
+length_stored : (form : Form) (before es : List Entry) → length (stored_after form before es) ≡ length es
+length_stored form before [] = refl
+length_stored form before (e ∷ es) = ap suc (length_stored form (before ++ e ∷ []) es)
 
 pub first_whole : (v : StoreState) (blob : ObjectId) (n : ℕ) (p : Planning) (content : Option Content) → length v.entries ≤ n → WhereTold (PlansFirst v blob n p) content → WhereTold (PlansFirst v blob (length v.entries) p) content
 first_whole v blob n p None most up = tt
 first_whole v blob n p (Some k) most up = λ cache a text own picks.
-    let size : length v.entries ≡ length a.entries = ap length own.keeps.kept ∙ length_stored [] a.entries in
+    let size : length v.entries ≡ length a.entries = ap length own.keeps.kept ∙ length_stored a.config.form [] a.entries in
     let all : take n a.entries ≡ take (length v.entries) a.entries = take_all n a.entries (omega (arith, most, size)) ∙ sym (take_all (length v.entries) a.entries (omega (arith, size))) in
     subst (λ (es : List Entry). IsPlannedUpTo (texts_in k) v.root a es text p) all (up cache a text own picks)
 
@@ -129,23 +132,24 @@ test_step true false one two = absurd (let wrong : false ≡ true = one refl in 
 test_step false true one two = absurd (let wrong : false ≡ true = two refl in cc)
 test_step false false one two = refl
 
-picks_one : (blob : ObjectId) (text : List ℕ) (e : Entry) → blob ≡ blob_id_of form.Sha1 text → (blob_id_of form.Sha1 text ≡ blob_id_of form.Sha1 e.text → text ≡ e.text) → id_eq blob (blob_id_of form.Sha1 e.text) ≡ bytes_eq text e.text
-picks_one blob text e is agrees =
-    test_step (id_eq blob (blob_id_of form.Sha1 e.text)) (bytes_eq text e.text)
-    (λ hit. (bytes_eq-Decides text e.text).1 (agrees (sym is ∙ (id_eq-Decides blob (blob_id_of form.Sha1 e.text)).0 hit)))
-    (λ hit. (id_eq-Decides blob (blob_id_of form.Sha1 e.text)).1 (is ∙ ap (blob_id_of form.Sha1) ((bytes_eq-Decides text e.text).0 hit)))
+picks_one : (form : Form) (blob : ObjectId) (text : List ℕ) (e : Entry) → blob ≡ blob_id_of form text → (blob_id_of form text ≡ blob_id_of form e.text → text ≡ e.text) → id_eq blob (blob_id_of form e.text) ≡ bytes_eq text e.text
+picks_one form blob text e is agrees =
+    test_step (id_eq blob (blob_id_of form e.text)) (bytes_eq text e.text)
+    (λ hit. (bytes_eq-Decides text e.text).1 (agrees (sym is ∙ (id_eq-Decides blob (blob_id_of form e.text)).0 hit)))
+    (λ hit. (id_eq-Decides blob (blob_id_of form e.text)).1 (is ∙ ap (blob_id_of form) ((bytes_eq-Decides text e.text).0 hit)))
 
-pub picks_text : (a : Archive) (blob : ObjectId) (text : List ℕ) → BlobsAgree a.entries → HasText text a.entries → blob ≡ blob_id_of form.Sha1 text → PicksText a blob text
+pub picks_text : (a : Archive) (blob : ObjectId) (text : List ℕ) → BlobsAgree a.config.form a.entries → HasText text a.entries → blob ≡ blob_id_of a.config.form text → PicksText a blob text
 picks_text a blob text agree has is =
-    all_weaker (λ (e : Entry). blob_id_of form.Sha1 text ≡ blob_id_of form.Sha1 e.text → text ≡ e.text) (λ (e : Entry). id_eq blob (blob_id_of form.Sha1 e.text) ≡ bytes_eq text e.text) a.entries (λ e agrees. picks_one blob text e is agrees) (agrees-has a.entries text agree has)
+    all_weaker (λ (e : Entry). blob_id_of a.config.form text ≡ blob_id_of a.config.form e.text → text ≡ e.text) (λ (e : Entry). id_eq blob (blob_id_of a.config.form e.text) ≡ bytes_eq text e.text) a.entries (λ e agrees. picks_one a.config.form blob text e is agrees)
+    (agrees-has a.config.form a.entries text agree has)
 
 -- The text of an entry that is kept with a blob id.
 pub picked : (v : StoreState) (cache : List ℕ) (a : Archive) (k : Content) (blob : ObjectId) → IsDiskWith v cache a k → (e : StoredEntry) × Contains v.entries e × (e.seen.blob ≡ blob) → (text : List ℕ) × PicksText a blob text
 picked v cache a k blob own there =
     let at = there.1 in
     let here : slice_get v.entries at.0 ≡ Some there.0 = slice_get-get_or v.entries at.0 there.0 at.1 ∙ ap (λ (s : StoredEntry). Some s) at.2 in
-    let r = kept_found [] a.entries at.0 there.0 (ap (λ (l : List StoredEntry). slice_get l at.0) (sym own.keeps.kept) ∙ here) in
-    let blob_so : blob ≡ blob_id_of form.Sha1 r.entry.text = sym there.2 ∙ ap (λ (s : StoredEntry). s.seen.blob) r.kept in
+    let r = kept_found a.config.form [] a.entries at.0 there.0 (ap (λ (l : List StoredEntry). slice_get l at.0) (sym own.keeps.kept) ∙ here) in
+    let blob_so : blob ≡ blob_id_of a.config.form r.entry.text = sym there.2 ∙ ap (λ (s : StoredEntry). s.seen.blob) r.kept in
     (r.entry.text, picks_text a blob r.entry.text own.keeps.valid.blobs (subst (HasText r.entry.text) (sym r.is) (has_there r.front r.entry r.rest)) blob_so)
 
 -- So planning finds no damage on an archive's disk.
@@ -160,7 +164,7 @@ first_stops v blob n p new None mid stored file refusal T same here file_is ther
 first_stops v blob n p new (Some k) None stored file refusal T same here file_is there up takes = absurd same
 first_stops v blob n p new (Some k) (Some m) stored file refusal T same here file_is there up takes = λ a cache own.
     let text = picked v cache a k blob own there in
-    let at = nth [] a.entries n stored (ap (λ (l : List StoredEntry). slice_get l n) (sym own.keeps.kept) ∙ here) in
+    let at = nth a.config.form [] a.entries n stored (ap (λ (l : List StoredEntry). slice_get l n) (sym own.keeps.kept) ∙ here) in
     let takes_k = subst (λ (c : Content). PlansNext p file stored blob (Some c) new (Err refusal)) (one_content k m same) takes in
     let one = takes_k v cache a (take n a.entries) (drop (suc n) a.entries) at.entry text.0 own at.is at.kept (file_is ∙ ap (λ (s : StoredEntry). epoch_file_of v.root s.epoch) at.kept) text.1 (up cache a text.0 own text.1) in
     sees_none (texts_in k) v.root a (take n a.entries) at.entry text.0 new refusal T one
@@ -207,7 +211,7 @@ finish_entries old map count new finishes = ap (λ (p : Planning). p.entries) fi
 module _ (v : StoreState) (blob : ObjectId) (p new : Planning) (map : FileName) (map_is : map ≡ map_file_of v.root) (count : ℕ) (count_is : count ≡ v.root.next - 1) (finishes : FinishesPlans p map count new) (from : AreFrom v.root new.plans) where
   up_all : (k : Content) (cache : List ℕ) (a : Archive) (text : List ℕ) → IsDiskWith v cache a k → PicksText a blob text → PlansFirst v blob (length v.entries) p k → IsPlannedUpTo (texts_in k) v.root a a.entries text p
   up_all k cache a text own picks up =
-      let size : length v.entries ≡ length a.entries = ap length own.keeps.kept ∙ length_stored [] a.entries in
+      let size : length v.entries ≡ length a.entries = ap length own.keeps.kept ∙ length_stored a.config.form [] a.entries in
       subst (λ (es : List Entry). IsPlannedUpTo (texts_in k) v.root a es text p) (take_all (length v.entries) a.entries (omega (arith, size))) (up cache a text own picks)
 
   pub plans_own : (content : Option Content) → WhereTold (PlansFirst v blob (length v.entries) p) content → PlansOwn v blob new.entries new.plans content
@@ -223,7 +227,7 @@ pub record ReadyOf (v : StoreState) (root : Root) (p new : Planning) : Type 0 wh
   pub own : (blob : ObjectId) (content : Option Content) → WhereTold (PlansFirst v blob (length v.entries) p) content → PlansOwn v blob new.entries new.plans content
 
 pub ready_of : (v : StoreState) (root : Root) (slot : ℕ) (entries : List StoredEntry) (map : FileName) (p new : Planning) → ◌≡◌ {A = StoreState} (record { root = root; slot = slot; entries = entries }) v → IsRoot root → map ≡ map_file_of root → ArePlansIn v.root p → IsTakenToOffset v.root p → FinishesPlans p map (root.next - 1) new
-    → ((r : Root) → IsRoot r → map ≡ map_file_of r → r.map.length ≡ 28 * (root.next - 1) → ArePlansIn r p → IsTakenToOffset r p → AreFrom r new.plans × AreAnew new.plans × IsReadyPlan r new.plans (root.next - 1 + 1) × AreNamedAfter r new.plans new.entries)
+    → ((r : Root) → IsRoot r → map ≡ map_file_of r → r.map.length ≡ record_size r.config.form * (root.next - 1) → ArePlansIn r p → IsTakenToOffset r p → AreFrom r new.plans × AreAnew new.plans × IsReadyPlan r new.plans (root.next - 1 + 1) × AreNamedAfter r new.plans new.entries)
     → ReadyOf v root p new
 ready_of v root slot entries map p new view_is valid map_is are taken finishes ready =
     let root_is : root ≡ v.root = ap (λ (u : StoreState). u.root) view_is in

@@ -4,9 +4,9 @@ use Rattle.std.specs.Prelude.{◌≡◌, ◌-◌, ◌*◌, ◌<◌, ◌≤◌, �
 use Rattle.std.specs.List.{flat_map}
 use Rattle.std.proofs.Common.{◌∙◌, sym, ap, subst, inl, inr, arith, length-take}
 use Rattle.std.proofs.lemmas.Bool.{cases_lt}
-use Rattle.arch_base.specs.declared.ids.Form.TheVariants as form
 use Rattle.disk_model.specs.declared.name.FileName.{FileName}
 use Rattle.disk_model.specs.Disk.{File, Files, Content, Image, BothTold, WhereTold, Synced, bytes_of, ReadsFit}
+use Rattle.disk_model.specs.Sizes.{record_size}
 use Rattle.disk_model.specs.Synced.{settled_image}
 use Rattle.disk_model.specs.Tells.{told_then, told_where}
 use Rattle.arch_model.specs.Archives.{Archive, in_epoch}
@@ -95,12 +95,12 @@ module _ (found : Found) (files : Files) (is : IsFoundIn files found) where
   has_root = current_has (slot_number found.slot) (spelling found.root) (files root_name) is.root.current
 
   -- The archive's entries are those that were read.
-  kept_is : RecoversOne → OpenedRecovers → (cache : List ℕ) (a : Archive) → RecoversArchiveBy found.root cache files a → found.entries.items ≡ stored_after [] a.entries
+  kept_is : RecoversOne → OpenedRecovers → (cache : List ℕ) (a : Archive) → RecoversArchiveBy found.root cache files a → found.entries.items ≡ stored_after a.config.form [] a.entries
   kept_is one opened cache a r =
       let map : HasMap found.root files is.records = record { is_root = is.root.is_root; fits = is.root.fits; current = has_root; count = is.has.count; begins = is.has.begins } in
       let read = opened found.root files is.records is.read.entries map is.read.opened in
       let same : archive_of found.root is.read.entries ≡ a = one files (archive_of found.root is.read.entries) a (cache_in found.root files) cache (found.root, read) (found.root, r) in
-      is.read.kept_are ∙ ap (λ (b : Archive). stored_after [] b.entries) same
+      is.read.kept_are ∙ ap (λ (b : Archive). stored_after b.config.form [] b.entries) same
 
 -- Files of which a store is opened stand for an archive that it keeps.
 pub opened_stands : OpenedRecovers → OpenedStands
@@ -170,11 +170,12 @@ sized_so found k n is kept = record {
   map_there =
       let name = map_file_of found.root in
       let end_ : named_end found.root name ≡ found.root.map.length = named_some found.root name (map_is_named found.root found.root.map.generation refl) in
-      let size = records_length form.Sha1 1 is.records is.has.begins.valid in
-      let spelled : length (take (28 * length is.records) (bytes_of (k name).seen)) ≡ length (flat_map record_bytes is.records) = ap (λ (b : List ℕ). length b) is.has.begins.spelled in
+      let form = found.root.config.form in
+      let size = records_length form 1 is.records is.has.begins.valid in
+      let spelled : length (take (record_size form * length is.records) (bytes_of (k name).seen)) ≡ length (flat_map record_bytes is.records) = ap (λ (b : List ℕ). length b) is.has.begins.spelled in
       let long = is.root.is_root.map_length in
-      let count = is.has.count in
-      let was : named_end found.root name ≤ length (bytes_of (k name).seen) = omega (arith, end_, size, spelled, long, count, length-take {A = ℕ} (28 * length is.records) (bytes_of (k name).seen)) in
+      let count = ap (λ (n : ℕ). record_size form * n) is.has.count in
+      let was : named_end found.root name ≤ length (bytes_of (k name).seen) = omega (arith, end_, size, spelled, long, count, length-take {A = ℕ} (record_size form * length is.records) (bytes_of (k name).seen)) in
       let now = still_long found.root name k n was (kept.fronts name (map_isnt_root found.root.map.generation)) in
       omega (arith, now, end_)
 
@@ -222,14 +223,14 @@ none_fronts (b ∷ bytes) file none = absurd (omega (arith, none))
 texts_so : (found : Found) (k n : Content) → IsFoundIn (as_read k) found → IsSettledBy found.root (slot_number found.slot) k n → HasTexts (view_of found) n
 texts_so found k n is kept = texts-stand (view_of found) is.read.entries n is.read.kept_are is.read.opened.first.valid (λ e below. elim (cases_lt 0 (get_or found.root.epochs e no_place).length) [
   | inl some ↦ there e below some
-  | inr none ↦ none_fronts (epoch_bytes (in_epoch is.read.entries e)) (n (epoch_file_of found.root e)).seen (let whole = is.read.opened.whole.lengths e below in omega (arith, whole, none))
+  | inr none ↦ none_fronts (epoch_bytes found.root.config.form (in_epoch is.read.entries e)) (n (epoch_file_of found.root e)).seen (let whole = is.read.opened.whole.lengths e below in omega (arith, whole, none))
 ]) where
-  there : (e : ℕ) → e < 64 → 0 < (get_or found.root.epochs e no_place).length → Fronts (epoch_bytes (in_epoch is.read.entries e)) (n (epoch_file_of found.root e)).seen
+  there : (e : ℕ) → e < 64 → 0 < (get_or found.root.epochs e no_place).length → Fronts (epoch_bytes found.root.config.form (in_epoch is.read.entries e)) (n (epoch_file_of found.root e)).seen
   there e below some =
       let name = epoch_file_of found.root e in
       let end_ : named_end found.root name ≡ (get_or found.root.epochs e no_place).length = named_some found.root name (epoch_is_named found.root e (get_or found.root.epochs e no_place).generation below some refl) in
-      let count : named_end found.root name ≡ length (epoch_bytes (in_epoch is.read.entries e)) = end_ ∙ is.read.opened.whole.lengths e below in
-      fronts-kept (epoch_bytes (in_epoch is.read.entries e)) (k name).seen (n name).seen (is.read.opened.whole.fronts e below)
+      let count : named_end found.root name ≡ length (epoch_bytes found.root.config.form (in_epoch is.read.entries e)) = end_ ∙ is.read.opened.whole.lengths e below in
+      fronts-kept (epoch_bytes found.root.config.form (in_epoch is.read.entries e)) (k name).seen (n name).seen (is.read.opened.whole.fronts e below)
       (subst (λ (m : ℕ). take m (bytes_of (n name).seen) ≡ take m (bytes_of (k name).seen)) count (kept.fronts name (epoch_isnt_root e (get_or found.root.epochs e no_place).generation)))
 
 pub opened_texts : (found : Found) (k m n : Option Content) → WhereTold (λ c. IsFoundIn (as_read c) found) k → BothTold IsOnlySynced k m → BothTold (IsSettledBy found.root (slot_number found.slot)) m n → WhereTold (HasTexts (view_of found)) n

@@ -1,7 +1,7 @@
 -- Damage that a purge or an edit tells: of an entry whose text isn't in its place, or of a short file.
 use Rattle.std.specs.Prelude.{◌≡◌, ◌<◌, ℕ, length, drop, slice_get, Option, Some, None, refl}
 use Rattle.std.proofs.Common.{◌∙◌, subst, inl, arith, length-drop, length-take}
-use Rattle.arch_base.specs.declared.ids.Form.TheVariants as form
+use Rattle.arch_base.specs.declared.ids.Form.{Form}
 use Rattle.disk_model.specs.declared.name.FileName.{FileName}
 use Rattle.disk_model.specs.Disk.{Content, BothTold, Unchanged, WhereTold, bytes_of}
 use Rattle.root_change.specs.Rewriting.{IsPlannedPart}
@@ -24,21 +24,22 @@ none_told P NoMemory sound = tt
 none_told P (Damaged file at) sound = absurd sound
 
 -- An entry whose text isn't in its place, after the disk was only read.
-lacks_here : (v : StoreState) (s : StoredEntry) (file : FileName) (k m : Option Content) → file ≡ epoch_file_of v.root s.epoch → BothTold Unchanged k m → WhereTold (LacksText form.Sha1 file s.seen) m → WhereTold (λ (c : Content). HasText v.root s c → ⊥) k
-lacks_here v s file None m file_is same lack = tt
-lacks_here v s file (Some k) None file_is same lack = absurd same
-lacks_here v s file (Some k) (Some m) file_is same lack = λ has.
+lacks_here : (v : StoreState) (s : StoredEntry) (form : Form) (file : FileName) (k m : Option Content) → form ≡ v.root.config.form → file ≡ epoch_file_of v.root s.epoch → BothTold Unchanged k m → WhereTold (LacksText form file s.seen) m → WhereTold (λ (c : Content). HasText v.root s c → ⊥) k
+lacks_here v s form file None m form_is file_is same lack = tt
+lacks_here v s form file (Some k) None form_is file_is same lack = absurd same
+lacks_here v s form file (Some k) (Some m) form_is file_is same lack = λ has.
     let own = epoch_file_of v.root s.epoch in
-    let lacks : LacksText form.Sha1 own s.seen k = subst (λ (f : FileName). LacksText form.Sha1 f s.seen k) file_is (subst (LacksText form.Sha1 file s.seen) (one_content k m same) lack) in
+    let lacks : LacksText v.root.config.form own s.seen k =
+    subst (λ (g : Form). LacksText g own s.seen k) form_is (subst (λ (f : FileName). LacksText form f s.seen k) file_is (subst (LacksText form file s.seen) (one_content k m same) lack)) in
     let bytes = bytes_of (k own).seen in
     let long = has.long in
     lacks (omega (arith, long, length-take s.seen.size (drop s.seen.text_at bytes), length-drop s.seen.text_at bytes)) has.blob
 
-pub entry_damage : (v : StoreState) (i : ℕ) (s : StoredEntry) (file : FileName) (k m : Option Content) (why : StoreRefusal) → slice_get v.entries i ≡ Some s → file ≡ epoch_file_of v.root s.epoch → BothTold Unchanged k m → DamageBy why (IsDamageOf file s m) → DamageBy why (λ (f : FileName) (at : ℕ). IsDamagedEntry v f at k)
-entry_damage v i s file k m DiskFault here file_is same damage = tt
-entry_damage v i s file k m NoMemory here file_is same damage = tt
-entry_damage v i s file k m (Damaged f at) here file_is same damage =
-    record { index = i; entry = s; there = here; file_is = damage.0 ∙ file_is; at_is = damage.1; lacks = lacks_here v s file k m file_is same damage.2 }
+pub entry_damage : (v : StoreState) (i : ℕ) (s : StoredEntry) (form : Form) (file : FileName) (k m : Option Content) (why : StoreRefusal) → slice_get v.entries i ≡ Some s → form ≡ v.root.config.form → file ≡ epoch_file_of v.root s.epoch → BothTold Unchanged k m → DamageBy why (IsDamageOf form file s m) → DamageBy why (λ (f : FileName) (at : ℕ). IsDamagedEntry v f at k)
+entry_damage v i s form file k m DiskFault here form_is file_is same damage = tt
+entry_damage v i s form file k m NoMemory here form_is file_is same damage = tt
+entry_damage v i s form file k m (Damaged f at) here form_is file_is same damage =
+    record { index = i; entry = s; there = here; file_is = damage.0 ∙ file_is; at_is = damage.1; lacks = lacks_here v s form file k m form_is file_is same damage.2 }
 
 pub entry_told : (v : StoreState) (k : Option Content) (why : StoreRefusal) → DamageBy why (λ (f : FileName) (at : ℕ). IsDamagedEntry v f at k) → DamageBy why (λ (f : FileName) (at : ℕ). IsDamageIn v f at k)
 entry_told v k DiskFault damage = tt

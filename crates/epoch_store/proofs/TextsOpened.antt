@@ -2,7 +2,6 @@
 use Rattle.std.specs.Prelude.{◌≡◌, ◌<◌, ℕ, List, [], length, take, slice_get, Some, min}
 use Rattle.std.specs.List.{AllByRecursion}
 use Rattle.std.proofs.Common.{◌∙◌, sym, ap, subst, arith, length-take}
-use Rattle.arch_base.specs.declared.ids.Form.TheVariants as form
 use Rattle.disk_model.specs.Disk.{Content, File, bytes_of}
 use Rattle.disk_model.specs.Sizes.{epoch_count}
 use Rattle.arch_model.specs.Archives.{Entry, in_epoch}
@@ -24,7 +23,7 @@ fronts-kept bytes old new fronts same =
     record { long = omega (arith, whole, least); front = same ∙ fronts.front }
 
 -- Where each epoch's file starts with the bytes of its entries, each text is in its place.
-pub texts-stand : (v : StoreState) (es : List Entry) (k : Content) → v.entries ≡ stored_after [] es → AllByRecursion IsEntry es → ((e : ℕ) → e < epoch_count → Fronts (epoch_bytes (in_epoch es e)) (k (epoch_file_of v.root e)).seen) → HasTexts v k
+pub texts-stand : (v : StoreState) (es : List Entry) (k : Content) → v.entries ≡ stored_after v.root.config.form [] es → AllByRecursion IsEntry es → ((e : ℕ) → e < epoch_count → Fronts (epoch_bytes v.root.config.form (in_epoch es e)) (k (epoch_file_of v.root e)).seen) → HasTexts v k
 texts-stand v es k kept valid fronts i s is =
-    let at = text_at v.root es k valid fronts i s (subst (λ (l : List StoredEntry). slice_get l i ≡ Some s) kept is) in
-    record { long = at.long; blob = ap (blob_id_of form.Sha1) at.stands ∙ sym at.blob }
+    let at = text_at v.root.config.form v.root es k valid fronts i s (subst (λ (l : List StoredEntry). slice_get l i ≡ Some s) kept is) in
+    record { long = at.long; blob = ap (blob_id_of v.root.config.form) at.stands ∙ sym at.blob }

@@ -1,8 +1,9 @@
 -- Which commands what is kept accepts, what they leave of it, and which files they keep.
 use Rattle.std.specs.Prelude.{◌-◌, ◌^◌, min, Bool, not, ◌&&◌, ◌||◌, ◌≡◌, ◌≢◌, ◌⊎◌, ◌+◌, ◌<◌, ◌≤◌, ◌==◌, ℕ, false, List, [], ◌∷◌, ◌++◌, length, get_or, Option, Some, None, if◌then◌else◌, Result, Ok, Err}
 use Rattle.std.specs.List.{AllZip, Contains}
+use Rattle.arch_base.specs.Ids.{form_of}
 use Rattle.arch_base.specs.declared.ids.ObjectId.{ObjectId}
-use Rattle.arch_base.specs.declared.ids.Form.TheVariants as form
+use Rattle.arch_base.specs.declared.ids.Form.{Form}
 use Rattle.disk_model.specs.Disk.{Files, Content, bytes_of}
 use Rattle.disk_model.specs.Sizes.{epoch_count}
 use Rattle.mail_reader.specs.StorageTexts.{IsStorageText}
@@ -73,7 +74,7 @@ pub record MayEnd (v : StoreState) (number : ℕ) (text : List ℕ) : Type 0 whe
   pub is_live : Contains (live_kept v.entries) entry
   pub number_is : entry.number ≡ number
   pub id : own_id text ≡ Some entry.seen.id
-  pub blob : blob_id_of form.Sha1 text ≡ entry.seen.blob
+  pub blob : blob_id_of (form_of entry.seen.blob) text ≡ entry.seen.blob
 
 -- Where the next entry of an archive is written: its epoch, and the file of that epoch, after its
 -- bytes and its last commit. If the epoch has no bytes, it is a new file of this generation.
@@ -82,12 +83,12 @@ pub record IsNextPlace (root : Root) (a : Archive) (new_gen : ℕ) (p : NextPlac
   pub length_is : p.length ≡ length (bytes_in a p.epoch)
   pub old : bytes_in a p.epoch ≢ [] → p.generation ≡ (get_or root.epochs p.epoch no_place).generation
   pub new : bytes_in a p.epoch ≡ [] → p.generation ≡ new_gen
-  pub parent : p.parent ≡ last_commit None (in_epoch a.entries p.epoch)
+  pub parent : p.parent ≡ last_commit a.config.form None (in_epoch a.entries p.epoch)
 
--- Entries end at this place: the bytes of its epoch are so long, and this is its last commit.
-pub record EntriesEndAt (before : List Entry) (p : NextPlace) : Type 0 where
-  pub length_is : p.length ≡ length (epoch_bytes (in_epoch before p.epoch))
-  pub parent : p.parent ≡ last_commit None (in_epoch before p.epoch)
+-- Entries end at this place in a form: the bytes of its epoch are so long, and this is its last commit.
+pub record EntriesEndAt (form : Form) (before : List Entry) (p : NextPlace) : Type 0 where
+  pub length_is : p.length ≡ length (epoch_bytes form (in_epoch before p.epoch))
+  pub parent : p.parent ≡ last_commit form None (in_epoch before p.epoch)
 
 -- One more, up to 2^64 - 1.
 abbrev pub next_sequence : ℕ → ℕ
@@ -111,7 +112,7 @@ pub record AddsEntry (old new : StoreState) (text : List ℕ) : Type 0 where
   pub kind : entry.seen.kind ≡ Message
   pub number : entry.number ≡ old.root.next
   pub id : own_id text ≡ Some entry.seen.id
-  pub blob : entry.seen.blob ≡ blob_id_of form.Sha1 text
+  pub blob : entry.seen.blob ≡ blob_id_of old.root.config.form text
   pub content : entry.seen.content ≡ content_id_of text
   pub next : new.root.next ≡ old.root.next + 1
   pub config : new.root.config ≡ old.root.config
@@ -124,7 +125,7 @@ pub record EndsEntry (old new : StoreState) (number : ℕ) (text : List ℕ) : T
   pub kind : entry.seen.kind ≡ Deletion
   pub number_is : entry.number ≡ number
   pub id : own_id text ≡ Some entry.seen.id
-  pub blob : entry.seen.blob ≡ blob_id_of form.Sha1 text
+  pub blob : entry.seen.blob ≡ blob_id_of old.root.config.form text
   pub content : entry.seen.content ≡ content_id_of text
   pub next : new.root.next ≡ old.root.next
   pub config : new.root.config ≡ old.root.config
@@ -166,7 +167,7 @@ pub record MayEdit (v : StoreState) (number : ℕ) (blob : ObjectId) (text : Lis
   pub number_left : v.root.next ≤ v.root.config.max
   pub storage : IsStorageText text
   pub id : (a : Archive) (n : ℕ) (old : List ℕ) → KeepsArchive v a
-      → text_of (messages a.entries) n ≡ Some old → blob_id_of form.Sha1 old ≡ blob
+      → text_of (messages a.entries) n ≡ Some old → blob_id_of a.config.form old ≡ blob
       → IsFree (live (without_text a.entries old)) text
 
 -- What a purge leaves of what is kept: the entries but those with a blob id, in order. The next number
@@ -186,7 +187,7 @@ pub record EditsEntries (old new : StoreState) (blob : ObjectId) (text : List �
   pub kind : entry.seen.kind ≡ Message
   pub number : entry.number ≡ old.root.next
   pub id : own_id text ≡ Some entry.seen.id
-  pub blob_is : entry.seen.blob ≡ blob_id_of form.Sha1 text
+  pub blob_is : entry.seen.blob ≡ blob_id_of old.root.config.form text
   pub content : entry.seen.content ≡ content_id_of text
   pub next : new.root.next ≡ old.root.next + 1
   pub config : new.root.config ≡ old.root.config

@@ -2,7 +2,6 @@
 -- then.
 use Rattle.std.specs.Prelude.{◌≡◌, ◌⊎◌, ◌+◌, ◌*◌, ℕ, List, [], ◌∷◌, ◌++◌, length, set, Some}
 use Rattle.arch_base.specs.declared.ids.ObjectId.{ObjectId}
-use Rattle.arch_base.specs.declared.ids.Form.TheVariants as form
 use Rattle.arch_model.specs.Archives.{Archive}
 use Rattle.arch_model.specs.Delivery.{new_epoch}
 use Rattle.arch_model.specs.Validity.{IsArchive}
@@ -52,7 +51,7 @@ root_after root kind p end_ = record {
   next = root.next + numbers_by kind;
   map = record {
     generation = root.map.generation;
-    length = root.map.length + record_size form.Sha1 * numbers_by kind;
+    length = root.map.length + record_size root.config.form * numbers_by kind;
   };
   epochs = set root.epochs p.epoch (record { generation = p.generation; length = end_ });
   cache = root.cache;
@@ -92,7 +91,8 @@ pub record Enters (kind : EntryKind) (number : ℕ) (text : List ℕ) (arrived :
     : Type 0 where
   pub valid : IsArchive b
   pub is : b ≡ with_new a kind number (new_epoch a) text arrived
-  pub map_is : map_bytes b ≡ map_bytes a ++ line_by kind a.next (new_epoch a) (blob_id_of form.Sha1 text)
+  pub map_is : map_bytes b
+      ≡ map_bytes a ++ line_by kind a.next (new_epoch a) (blob_id_of a.config.form text)
 
 -- One more entry follows those that were kept: it has a kind, a number, and the ids of a text. The
 -- settings stay.
@@ -103,7 +103,7 @@ pub record EntersEntry (kind_ : EntryKind) (number_ : ℕ) (text : List ℕ) (ol
   pub kind : entry.seen.kind ≡ kind_
   pub number : entry.number ≡ number_
   pub id : own_id text ≡ Some entry.seen.id
-  pub blob : entry.seen.blob ≡ blob_id_of form.Sha1 text
+  pub blob : entry.seen.blob ≡ blob_id_of old.root.config.form text
   pub content : entry.seen.content ≡ content_id_of text
   pub next : new.root.next ≡ old.root.next + numbers_by kind_
   pub config : new.root.config ≡ old.root.config

@@ -3,7 +3,6 @@ use Rattle.std.specs.Prelude.{◌≡◌, ◌+◌, ◌-◌, ◌<◌, ◌≤◌, �
 use Rattle.arch_base.specs.Counts.{RoseIf}
 use Rattle.arch_base.specs.declared.config.Config.{Config}
 use Rattle.arch_base.specs.declared.ids.ObjectId.{ObjectId}
-use Rattle.arch_base.specs.declared.ids.Form.TheVariants as form
 use Rattle.disk_model.specs.declared.disk.Disk.{Ghosts as Disk}
 use Rattle.disk_model.specs.declared.name.FileName.{FileName}
 use Rattle.disk_model.specs.Disk.{Content, BothTold, WhereTold}
@@ -123,7 +122,7 @@ ReadsByKind Renews before now = before ≤ now
 
 -- The second archive is the first with one more message. No other text has the blob id of its text.
 pub record AddsMessage (text : List ℕ) (arrived : ℕ) (a b : Archive) : Type 0 where
-  pub alone : collision a.entries text ≡ None
+  pub alone : collision a.config.form a.entries text ≡ None
   pub is : b ≡ with_entry a (new_epoch a) text arrived
 
 -- The second archive is the first with the deletion of a live number, which has this text.
@@ -136,7 +135,7 @@ pub record Drops (blob : ObjectId) (a b : Archive) : Type 0 where
   pub number : ℕ
   pub text : List ℕ
   pub shown : text_of (messages a.entries) number ≡ Some text
-  pub blob_is : blob_id_of form.Sha1 text ≡ blob
+  pub blob_is : blob_id_of a.config.form text ≡ blob
   pub is : b ≡ without_entries a text
 
 -- The second archive is the first with a message in place of a live text that has this blob id. No other
@@ -145,8 +144,8 @@ pub record Replaces (blob : ObjectId) (text : List ℕ) (arrived : ℕ) (a b : A
   pub number : ℕ
   pub gone : List ℕ
   pub shown : text_of (live a.entries) number ≡ Some gone
-  pub blob_is : blob_id_of form.Sha1 gone ≡ blob
-  pub alone : collision (without_entries a gone).entries text ≡ None
+  pub blob_is : blob_id_of a.config.form gone ≡ blob
+  pub alone : collision a.config.form (without_entries a gone).entries text ≡ None
   pub is : b ≡ with_entry (without_entries a gone) (new_epoch (without_entries a gone)) text arrived
 
 -- A command makes a second archive of the one on a disk. While the root's sequence can be raised, at

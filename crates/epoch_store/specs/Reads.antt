@@ -1,7 +1,8 @@
 -- What a store tells of its entries, and the results of reading a text.
 use Rattle.std.specs.Prelude.{◌≡◌, ◌≢◌, ◌<◌, ℕ, Bool, true, false, List, ◌++◌, length, slice_get, get_or, Option, Some, None, Result, Ok, Err}
+use Rattle.arch_base.specs.Ids.{form_of}
 use Rattle.arch_base.specs.declared.ids.ObjectId.{ObjectId}
-use Rattle.arch_base.specs.declared.ids.Form.TheVariants as form
+use Rattle.arch_base.specs.declared.ids.Form.{Form}
 use Rattle.disk_model.specs.declared.name.FileName.{FileName}
 use Rattle.disk_model.specs.Disk.{Content, bytes_of}
 use Rattle.git_objects.specs.Objects.{blob_id_of}
@@ -41,19 +42,20 @@ place_if root (Some s) = Some (epoch_file_of root s.epoch, s.seen.at)
 -- A text has the size and the blob id of an entry's.
 pub record IsTextOf (s : StoredEntry) (text : List ℕ) : Type 0 where
   pub size : length text ≡ s.seen.size
-  pub blob : blob_id_of form.Sha1 text ≡ s.seen.blob
+  pub blob : blob_id_of (form_of s.seen.blob) text ≡ s.seen.blob
 
--- The blob id of some bytes of this length.
-abbrev pub IsIdOfSize : ℕ → ObjectId → Type 0
-IsIdOfSize size id = (text : List ℕ) × (length text ≡ size) × (id ≡ blob_id_of form.Sha1 text)
+-- The blob id in a form of some bytes of this length.
+abbrev pub IsIdOfSize : Form → ℕ → ObjectId → Type 0
+IsIdOfSize form size id = (text : List ℕ) × (length text ≡ size) × (id ≡ blob_id_of form text)
 
 -- The results of reading the text of an entry: a text of the entry's size and blob id is appended.
 -- If bytes with another id were found, both ids are told: the entry's blob id is the one that is
--- named, and the other one is that of bytes of the entry's size. No error changes the bytes.
+-- named, and the other one is that of bytes of the entry's size, in the same form. No error changes the
+-- bytes.
 abbrev pub GivesText : StoredEntry → List ℕ → List ℕ → Result Unit TextRefusal → Type 0
 GivesText s old new (Ok _) = (text : List ℕ) × IsTextOf s text × (new ≡ old ++ text)
 GivesText s old new (Err (Damaged named found)) = (new ≡ old) × (named ≡ s.seen.blob)
-    × (found ≢ named) × IsIdOfSize s.seen.size found
+    × (found ≢ named) × IsIdOfSize (form_of s.seen.blob) s.seen.size found
 GivesText s old new (Err _) = new ≡ old
 
 -- What is read and what is found are the bytes at the offset of an entry's text, in the file of its
@@ -65,7 +67,7 @@ FindsText root s old new (Ok _) k = (text : List ℕ)
     × (new ≡ old ++ text)
 FindsText root s old new (Err (Damaged named found)) k = (text : List ℕ)
     × StandsAt (bytes_of (k (epoch_file_of root s.epoch)).seen) s.seen.text_at s.seen.size text
-    × (found ≡ blob_id_of form.Sha1 text)
+    × (found ≡ blob_id_of (form_of s.seen.blob) text)
 FindsText root s old new (Err _) k = Unit {0}
 
 -- The text of an entry that may be missing.

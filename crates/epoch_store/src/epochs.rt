@@ -52,7 +52,7 @@ impl Store {
     ) -> Result<bool, TextRefusal>
         ensures bytes { (a : Archive) (cache : List ℕ)
             → IsStoreWith self.now cache a (D.content disk.old)
-            → GivesEpochIn (in_epoch a.entries epoch) into.old into.new result }
+            → GivesEpochIn a.config.form (in_epoch a.entries epoch) into.old into.new result }
         ensures named { IsEpochFound self.now.root epoch into.old into.new result }
         ensures found { WhereTold (FindsEpoch self.now.root epoch into.old into.new result)
             (D.content disk.old) }

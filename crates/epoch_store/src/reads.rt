@@ -13,7 +13,7 @@ ghost use Rattle.store_finding.specs.Kept.{IsStoreWith};
 ghost use Rattle.epoch_store.specs.Reads.{line_of, line_if, place_if, GivesText, FindsText, GivesTextOf};
 
 use crate::store::Store;
-use arch_base::{Bytes, Config, Form};
+use arch_base::{Bytes, Config};
 use arch_model::{EntryLine, TextRefusal};
 use disk_model::{Disk, FileName};
 use git_objects::blob_id;
@@ -111,7 +111,7 @@ impl Store {
             Err(ReadRefusal::DiskFault) => return Err(TextRefusal::DiskFault),
             Err(ReadRefusal::NoMemory) => return Err(TextRefusal::NoMemory),
         };
-        let found = blob_id(text.as_slice(), Form::Sha1);
+        let found = blob_id(text.as_slice(), entry.seen.blob.form());
         if found != entry.seen.blob {
             return Err(TextRefusal::Damaged {
                 named: entry.seen.blob,

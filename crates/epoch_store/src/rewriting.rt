@@ -4,7 +4,6 @@ ghost use Rattle.std.specs.Prelude.{◌≡◌, ◌+◌, ◌-◌, ◌<◌, ◌≤
 ghost use Rattle.std.specs.List.{AllZip, Contains};
 ghost use Rattle.arch_base.specs.Counts.{RoseIf};
 ghost use Rattle.arch_base.specs.Moments.{last_moment};
-ghost use Rattle.arch_base.specs.declared.ids.Form.TheVariants as form;
 ghost use Rattle.disk_model.specs.Disk.{WhereTold};
 ghost use Rattle.disk_model.specs.Sizes.{greatest_epoch};
 ghost use Rattle.mail_reader.specs.StorageTexts.{IsStorageText};
@@ -22,7 +21,7 @@ ghost use Rattle.store_finding.specs.Kept.{InEpochs, IsStoreWith};
 ghost use Rattle.store_planning.specs.Dropping.{KeptOf, without_blob};
 
 use crate::store::{MOST, Store, own_id_of};
-use arch_base::{Form, ObjectId};
+use arch_base::ObjectId;
 use disk_model::{Disk, FileKind, LAST_EPOCH};
 use epoch_file::{NewEntry, StoreRefusal, Written, entry_piece};
 use git_objects::EntryKind;
@@ -88,7 +87,7 @@ impl Store {
         moment: u64,
     ) -> Result<(), StoreRefusal>
         requires may { (number : ℕ) × MayEdit self.old number old.now text.now }
-        requires ids { ids.now ≡ text_ids_of form.Sha1 text.now }
+        requires ids { ids.now ≡ text_ids_of self.old.root.config.form text.now }
         requires moment { moment ≤ last_moment }
         requires sizes { WhereTold (StoreHasSizes self.old) (D.content disk.old) }
         ensures changes { ChangesStore D.Disk disk.old disk.new
@@ -121,7 +120,7 @@ impl Store {
         ensures cause { RoseIf (result ≡ Err StoreRefusal.DiskFault) (D.faults disk.old)
             (D.faults disk.new) }
     {
-        let mut planned = Planner::new(alloc);
+        let mut planned = Planner::new(alloc, self.root.config.form);
         match self.plan_entries(disk, &mut planned, blob) {
             Ok(()) => {}
             Err(refusal) => return Err(refusal),
@@ -137,7 +136,7 @@ impl Store {
         planned: &mut Planner,
         blob: &ObjectId,
     ) -> Result<(), StoreRefusal>
-        requires none { planned.old ≡ no_planning }
+        requires none { planned.old ≡ no_planning self.now.root.config.form }
         requires there { (e : StoredEntry) × Contains self.now.entries e × (e.seen.blob ≡ blob.now) }
         ensures kept { OnOk result (AllZip KeptOf (without_blob self.now.entries blob.now)
             planned.new.entries) }
@@ -213,7 +212,7 @@ impl Store {
         ids: &TextIds,
         moment: u64,
     ) -> Result<(), StoreRefusal>
-        requires ids { ids.now ≡ text_ids_of form.Sha1 text.now }
+        requires ids { ids.now ≡ text_ids_of self.now.root.config.form text.now }
         requires epochs { InEpochs planned.old.entries }
         requires storage { IsStorageText text.now }
         requires moment { moment ≤ last_moment }
@@ -234,7 +233,7 @@ impl Store {
             ids: *ids,
             moment,
             parent: place.parent,
-            form: Form::Sha1,
+            form: self.root.config.form,
         };
         let (piece, made) = entry_piece(alloc, place.length, &entry)?;
         planned.append(place.epoch, piece.as_slice())?;
@@ -277,7 +276,8 @@ impl Store {
             return Err(StoreRefusal::NoMemory);
         }
         let slot = self.slot.other();
-        match rewrite(disk, slot, &self.root, planned.plans(), next) {
+        let form = self.root.config.form;
+        match rewrite(disk, slot, &self.root, planned.plans(), next, form) {
             Ok(root) => {
                 self.root = root;
                 self.slot = slot;

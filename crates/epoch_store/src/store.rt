@@ -13,7 +13,6 @@ ghost use Rattle.epoch_file.specs.Appending.{written_of};
 ghost use Rattle.epoch_file.specs.Lying.{EntryLiesIn};
 ghost use Rattle.root_slots.specs.Valid.{IsRoot};
 ghost use Rattle.arch_base.specs.Configs.{IsConfig};
-ghost use Rattle.arch_base.specs.declared.ids.Form.TheVariants as form;
 ghost use Rattle.store_finding.specs.Extents.{AreUpToEpoch};
 ghost use Rattle.epoch_store.specs.declared.refusal.InitRefusal.{InitRefusal};
 ghost use Rattle.epoch_store.specs.Promises.{AddsMessage, Appends, ChangesStore, EndsMessage, MakesArchive};
@@ -25,7 +24,7 @@ ghost use Rattle.epoch_store.specs.Commands.{IsNextPlace, next_sequence, place_o
 use crate::first::{all_names, first_root, make, no_archive};
 use crate::refusal::InitRefusal;
 use crate::writing::write_entry;
-use arch_base::{Bytes, Config, Form, NoMemory, ObjectId};
+use arch_base::{Bytes, Config, NoMemory, ObjectId};
 use disk_model::{Disk, LAST_EPOCH};
 use epoch_file::{NewEntry, Seen, StoreRefusal, Written};
 use git_objects::EntryKind;
@@ -161,19 +160,19 @@ impl Store {
         requires written { written.now ≡ written_of place.now.length entry.now }
         requires short { place.now.length < 2 ^ 62 }
         requires parent { entry.now.parent ≡ place.now.parent }
-        requires form { entry.now.form ≡ form.Sha1 }
-        requires ids { entry.now.ids ≡ text_ids_of form.Sha1 entry.now.text.now }
+        requires form { entry.now.form ≡ self.now.root.config.form }
+        requires ids { entry.now.ids ≡ text_ids_of self.now.root.config.form entry.now.text.now }
         requires id { own_id_in entry.now.text.now ≡ Some id }
         ensures lies { EntryLiesIn place.now.length written.now.end result.seen }
         ensures epoch { result.epoch ≡ place.now.epoch }
         ensures number { result.number ≡ number }
         ensures kind { result.seen.kind ≡ entry.now.kind }
         ensures id { result.seen.id ≡ id }
-        ensures blob { result.seen.blob ≡ blob_id_of form.Sha1 entry.now.text.now }
+        ensures blob { result.seen.blob ≡ blob_id_of self.now.root.config.form entry.now.text.now }
         ensures content { result.seen.content ≡ content_id_of entry.now.text.now }
         ensures stored { (a : Archive) → KeepsArchive self.now a
             → IsNextPlace self.now.root a (next_sequence self.now.root.sequence) place.now
-            → result ≡ stored_at a.entries (record {
+            → result ≡ stored_at a.config.form a.entries (record {
               kind = entry.now.kind;
               number = number;
               epoch = place.now.epoch;
@@ -181,8 +180,8 @@ impl Store {
               moment = entry.now.moment;
             }) }
         // The same after any entries that end where it is written.
-        ensures after { (before : List Entry) → EntriesEndAt before place.now
-            → result ≡ stored_at before (record {
+        ensures after { (before : List Entry) → EntriesEndAt self.now.root.config.form before place.now
+            → result ≡ stored_at self.now.root.config.form before (record {
               kind = entry.now.kind;
               number = number;
               epoch = place.now.epoch;
@@ -221,7 +220,7 @@ impl Store {
     ) -> Result<(), StoreRefusal>
         requires id { IsSome (own_id_in text.now) }
         requires left { self.old.root.next + numbers_by kind ≤ 2147483648 }
-        requires ids { ids.now ≡ text_ids_of form.Sha1 text.now }
+        requires ids { ids.now ≡ text_ids_of self.old.root.config.form text.now }
         requires moment { moment ≤ last_moment }
         requires sizes { WhereTold (StoreHasSizes self.old) (D.content disk.old) }
         ensures changes { ChangesStore D.Disk disk.old disk.new
@@ -243,7 +242,7 @@ impl Store {
             ids: *ids,
             moment,
             parent: place.parent,
-            form: Form::Sha1,
+            form: self.root.config.form,
         };
         root_fits(&self.root);
         let free = self.slot.other();
@@ -273,7 +272,7 @@ impl Store {
         moment: u64,
     ) -> Result<(), StoreRefusal>
         requires accepts { Accepts self.old text.now }
-        requires ids { ids.now ≡ text_ids_of form.Sha1 text.now }
+        requires ids { ids.now ≡ text_ids_of self.old.root.config.form text.now }
         requires moment { moment ≤ last_moment }
         requires sizes { WhereTold (StoreHasSizes self.old) (D.content disk.old) }
         ensures changes { ChangesStore D.Disk disk.old disk.new
@@ -302,7 +301,7 @@ impl Store {
         moment: u64,
     ) -> Result<(), StoreRefusal>
         requires may { MayEnd self.old number text.now }
-        requires ids { ids.now ≡ text_ids_of form.Sha1 text.now }
+        requires ids { ids.now ≡ text_ids_of self.old.root.config.form text.now }
         requires moment { moment ≤ last_moment }
         requires sizes { WhereTold (StoreHasSizes self.old) (D.content disk.old) }
         ensures changes { ChangesStore D.Disk disk.old disk.new

@@ -3,7 +3,6 @@
 ghost use Rattle.std.specs.Prelude.{◌≡◌, ◌≤◌, ◌<◌, ◌+◌, ◌-◌, ◌^◌, Err, IfOk, OnOk, length};
 ghost use Rattle.arch_base.specs.Counts.{HasCause, RoseIf};
 ghost use Rattle.arch_base.specs.Moments.{last_moment};
-ghost use Rattle.arch_base.specs.declared.ids.Form.TheVariants as form;
 ghost use Rattle.disk_model.specs.Beside.{RunsBeside};
 ghost use Rattle.disk_model.specs.Disk.{BothTold, WhereTold, IsAtMostLength};
 ghost use Rattle.disk_model.specs.Moments.{LeavesOnly};
@@ -24,7 +23,7 @@ ghost use Rattle.store_finding.specs.Files.{map_file_of};
 ghost use Rattle.epoch_store.specs.Commands.{RootGoesOn, place_of};
 ghost use Rattle.store_planning.specs.Dropping.{SeesNoDamage};
 
-use arch_base::{Form, ObjectId};
+use arch_base::ObjectId;
 use disk_model::{Disk, DiskFault, records_size};
 use epoch_file::{NewEntry, StoreRefusal, Written, append_entry};
 use git_objects::EntryKind;
@@ -61,7 +60,7 @@ fn next_root(root: &Root, place: &NextPlace, kind: EntryKind, end: u64) -> Root
     let mut next = root.copy();
     next.sequence = next.sequence.saturating_add(1);
     next.next += numbers;
-    next.map.length += records_size(numbers, Form::Sha1);
+    next.map.length += records_size(numbers, root.config.form);
     next.epochs[place.epoch as usize] = Place {
         generation: place.generation,
         length: end,
@@ -149,7 +148,7 @@ pub(crate) fn write_entry<D: Disk>(
     requires small { place.now.epoch ≤ greatest_epoch }
     requires place { place.now ≡ place_of root.now place.now.epoch place.now.parent }
     requires short { place.now.length < 2 ^ 62 }
-    requires form { entry.now.form ≡ form.Sha1 }
+    requires form { entry.now.form ≡ root.now.config.form }
     requires left { root.now.next + numbers_by entry.now.kind ≤ 2147483648 }
     requires sizes { WhereTold (HasPartSizes root.now) (D.content disk.old) }
     requires ids { entry.now.ids ≡ text_ids_of entry.now.form entry.now.text.now }

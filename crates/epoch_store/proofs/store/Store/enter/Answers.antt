@@ -1,6 +1,5 @@
 -- What is kept, and what is on the disk.
 use Rattle.std.proofs.Common.{refl, rules, ◌≡◌, ◌∙◌, ◌+◌, ◌-◌, ◌++◌, ◌∷◌, [], ℕ, List, length, sym, ap, subst, is_ok, ◌≤◌, arith}
-use Rattle.arch_base.specs.declared.ids.Form.TheVariants as form
 use Rattle.disk_model.specs.Disk.{WhereTold}
 use Rattle.epoch_file.specs.Appending.{appended}
 use Rattle.epoch_file.specs.Lying.{EntryLiesIn}
@@ -36,7 +35,7 @@ write_entry-requires-clause-sizes g c = subst (λ (v : StoreState). WhereTold (H
 
 pub returns-in_err-root-clause-changes : goal.returns-in_err-root-clause-changes
 returns-in_err-root-clause-changes g c =
-    let e : NewEntry = record { kind = c.args.kind; text = c.args.text; ids = c.args.ids.now; moment = c.args.moment; parent = c.next_place-place.result.parent; form = form.Sha1 } in
+    let e : NewEntry = record { kind = c.args.kind; text = c.args.text; ids = c.args.ids.now; moment = c.args.moment; parent = c.next_place-place.result.parent; form = c.self.inside.root.config.form } in
     let why = c.in_err-root.field-0.0 in
     let said = c.in_err-root.ensures in
     stopped why (search rules)
@@ -46,7 +45,7 @@ returns-in_err-root-clause-changes g c =
 
 pub returns-clause-changes : goal.returns-clause-changes
 returns-clause-changes g c =
-    let e : NewEntry = record { kind = c.args.kind; text = c.args.text; ids = c.args.ids.now; moment = c.args.moment; parent = c.next_place-place.result.parent; form = form.Sha1 } in
+    let e : NewEntry = record { kind = c.args.kind; text = c.args.text; ids = c.args.ids.now; moment = c.args.moment; parent = c.next_place-place.result.parent; form = c.self.inside.root.config.form } in
     let k0 = g.D.Disk.content c.args.disk.now in
     let k3 = g.D.Disk.content c.write_entry.new.disk in
     let root = c.in_ok-root.root in
@@ -82,7 +81,7 @@ invariant_of-self-3 g c =
     let small = c.next_place-place.ensures.small in
     let low : stored.epoch ≤ 63 = omega (arith, epoch_is, small) in
     let p = c.next_place-place.result in
-    let e : NewEntry = record { kind = c.args.kind; text = c.args.text; ids = c.args.ids.now; moment = c.args.moment; parent = p.parent; form = form.Sha1 } in
+    let e : NewEntry = record { kind = c.args.kind; text = c.args.text; ids = c.args.ids.now; moment = c.args.moment; parent = p.parent; form = c.self.inside.root.config.form } in
     let w : StoreState = record { root = c.self.inside.root; slot = slot_number c.self.inside.slot; entries = c.self.inside.entries.items } in
     let place = subst (λ (u : StoreState). p ≡ place_of u.root p.epoch p.parent) (sym c.self.view_is) c.next_place-place.ensures.place in
     let last = subst (λ (u : StoreState). AreUpToEpoch p.epoch u.entries) (sym c.self.view_is) c.next_place-place.ensures.last in

@@ -8,4 +8,4 @@ pub returns-clause-lies : goal.returns-clause-lies
 returns-clause-lies c =
     let entry = c.args.entry.now in
     let front : c.blob_front_len.result ≡ blob_front entry.text.now = search rules in
-    written_lies c.args.place.now.length entry _ c.entry_offset-at.result c.blob_front_len.result c.args.written.now c.requires.form (search rules) c.requires.written c.entry_offset-at.ensures front refl refl (search rules)
+    written_lies c.args.place.now.length entry _ c.entry_offset-at.result c.blob_front_len.result c.args.written.now (search rules) c.requires.written c.entry_offset-at.ensures front refl refl (search rules)

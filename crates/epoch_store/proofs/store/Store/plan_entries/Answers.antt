@@ -27,7 +27,7 @@ loop-entry-init g c =
       plans = subst (ArePlansIn v.root) none (plans_none v.root);
       taken =
           let named : AreNamed v.root v.entries = subst (λ (u : StoreState). AreNamed u.root u.entries) c.self.view_is c.self.invariant.2 in
-          record { epoch = 0; from = 0; taken = subst (IsTakenUpTo v.root 0 0) none (taken_none v.root); lie = named.lie; ends = named.ends };
+          record { epoch = 0; from = 0; taken = subst (IsTakenUpTo v.root 0 0) none (taken_none v.root.config.form v.root); lie = named.lie; ends = named.ends };
       changes = λ e. ap (λ (p : Planning). is_anew p e) c.requires.none;
       first = subst (λ (p : Planning). WhereTold (PlansFirst v blob 0 p) (g.D.Disk.content c.args.disk.now)) none (first_none v blob (g.D.Disk.content c.args.disk.now));
       reads = reads_none g.D.Disk c.args.disk.now (λ image. g.met.D.Disk.only_now c.args.disk.now image);
@@ -50,7 +50,7 @@ returns-in-Err-clause-damage g c =
     let i = c.loop-entry.entry-index in
     let e = c.entry-item.result in
     let here = entry_at v c.self.inside.root c.self.inside.slot c.self.inside.entries.items c.as_slice-entry-items.result.now i e c.self.view_is c.as_slice-entry-items.ensures.value c.loop-entry-test.true c.entry-item.is in
-    entry_damage v i e c.file_of.result (g.D.Disk.content c.args.disk.now) (g.D.Disk.content c.loop-entry.disk) c.in-Err.refusal here c.file_of.ensures c.loop-entry.invariant.reads.same c.in-Err.ensures.damage
+    entry_damage v i e c.loop-entry.planned.form c.file_of.result (g.D.Disk.content c.args.disk.now) (g.D.Disk.content c.loop-entry.disk) c.in-Err.refusal here c.loop-entry.invariant.plans.form c.file_of.ensures c.loop-entry.invariant.reads.same c.in-Err.ensures.damage
 
 pub returns-in-Err-clause-reads : goal.returns-in-Err-clause-reads
 returns-in-Err-clause-reads g c = reads_both g.D.Disk c.args.disk.now c.loop-entry.disk c.take.new.disk c.loop-entry.invariant.reads c.take.ensures.reads

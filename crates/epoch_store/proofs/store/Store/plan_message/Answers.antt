@@ -22,9 +22,9 @@ returns-clause-planned c =
     let id_is = c.in_ok-id.ensures ∙ ap (λ (i : List ℕ). Some i) (sym c.new_entry-stored.ensures.id) in
     let two = c.append_record.new.self in
     subst (PlansEdit c.args.self.now old text c.args.moment) (sym c.in_ok-push_entry.ensures)
-    (subst (λ (u : StoreState). PlansEdit u old text c.args.moment (record { plans = two.plans; entries = two.entries ++ stored ∷ []; gone = two.gone; current = two.current })) c.self.view_is
+    (subst (λ (u : StoreState). PlansEdit u old text c.args.moment (record { plans = two.plans; entries = two.entries ++ stored ∷ []; gone = two.gone; current = two.current; form = two.form })) c.self.view_is
     (message_planned v old c.append.new.self two p text c.args.moment c.as_slice.result.now c.in_ok-piece.made.blob stored place c.place_after-place.ensures.small long c.if-place-ge-MOST.false piece_is c.in_ok-piece.ensures.blob
-    c.new_entry-stored.ensures.after c.in_ok-append.ensures.appended c.in_ok-append.ensures.valid.0 c.in_ok-append_record.ensures.appended c.in_ok-append_record.ensures.valid.1 two.plans two.entries two.gone two.current refl
+    c.new_entry-stored.ensures.after c.in_ok-append.ensures.appended c.in_ok-append.ensures.valid.0 c.in_ok-append_record.ensures.appended c.in_ok-append_record.ensures.valid.1 two.plans two.entries two.gone two.current two.form refl
     (two.entries ++ stored ∷ []) refl c.new_entry-stored.ensures.kind c.new_entry-stored.ensures.number id_is c.new_entry-stored.ensures.blob c.new_entry-stored.ensures.content c.new_entry-stored.ensures.epoch
     _ c.new_entry-stored.ensures.lies (search rules) c.place_after-place.ensures.last))
 

@@ -1,6 +1,7 @@
 -- The entry's text, and another text.
 use Rattle.std.proofs.Common.{◌≡◌, ◌≢◌, ◌∙◌, ◌++◌, ℕ, List, sym, ap, rules}
-use Rattle.arch_base.specs.declared.ids.Form.TheVariants as form
+use Rattle.arch_base.specs.Ids.{form_of}
+use Rattle.arch_base.specs.declared.ids.Form.{Form}
 use Rattle.git_objects.specs.Objects.{blob_id_of}
 use Rattle.root_slots.specs.Slots.{slot_number}
 use Rattle.epoch_store.proofs.Texts.{here_is, one_here, tells_damage, finds_damage, gives_text, finds_text, right_text_in}
@@ -14,7 +15,8 @@ returns-then-ne-clause-text g c = λ s is.
     let file = c.file_of-file.result in
     let k = g.D.Disk.content c.args.disk.now in
     let found = c.blob_id-found.result in
-    let found_is : found ≡ blob_id_of form.Sha1 text = c.blob_id-found.ensures.value ∙ ap (blob_id_of form.Sha1) c.as_slice.ensures.value in
+    let found_is : found ≡ blob_id_of (form_of e.seen.blob) text =
+    c.blob_id-found.ensures.value ∙ (ap (blob_id_of c.form.result) c.as_slice.ensures.value ∙ ap (λ (g : Form). blob_id_of g text) c.form.ensures) in
     let apart : found ≢ e.seen.blob = search rules in
     tells_damage s e c.args.into.now text found (one_here c.args.self.now.entries c.args.index s e here is) apart c.in-Ok.ensures.size found_is
 
@@ -26,7 +28,8 @@ returns-then-ne-clause-found g c = λ s is.
     let file = c.file_of-file.result in
     let k = g.D.Disk.content c.args.disk.now in
     let found = c.blob_id-found.result in
-    let found_is : found ≡ blob_id_of form.Sha1 text = c.blob_id-found.ensures.value ∙ ap (blob_id_of form.Sha1) c.as_slice.ensures.value in
+    let found_is : found ≡ blob_id_of (form_of e.seen.blob) text =
+    c.blob_id-found.ensures.value ∙ (ap (blob_id_of c.form.result) c.as_slice.ensures.value ∙ ap (λ (g : Form). blob_id_of g text) c.form.ensures) in
     finds_damage c.args.self.now.root s e c.args.into.now text file e.seen.blob found k (one_here c.args.self.now.entries c.args.index s e here is) c.file_of-file.ensures found_is c.in-Ok.ensures.found
 
 pub returns-then-ne-clause-archive : goal.returns-then-ne-clause-archive
@@ -37,7 +40,8 @@ returns-then-ne-clause-archive g c = λ a cache own.
     let file = c.file_of-file.result in
     let k = g.D.Disk.content c.args.disk.now in
     let found = c.blob_id-found.result in
-    let found_is : found ≡ blob_id_of form.Sha1 text = c.blob_id-found.ensures.value ∙ ap (blob_id_of form.Sha1) c.as_slice.ensures.value in
+    let found_is : found ≡ blob_id_of (form_of e.seen.blob) text =
+    c.blob_id-found.ensures.value ∙ (ap (blob_id_of c.form.result) c.as_slice.ensures.value ∙ ap (λ (g : Form). blob_id_of g text) c.form.ensures) in
     let apart : found ≢ e.seen.blob = search rules in
     let right = right_text_in c.args.self.now cache a k c.args.index e text file own here c.file_of-file.ensures c.in-Ok.ensures.found in
     apart (found_is ∙ right.1)
@@ -50,7 +54,8 @@ returns-clause-text g c = λ s is.
     let file = c.file_of-file.result in
     let k = g.D.Disk.content c.args.disk.now in
     let found = c.blob_id-found.result in
-    let found_is : found ≡ blob_id_of form.Sha1 text = c.blob_id-found.ensures.value ∙ ap (blob_id_of form.Sha1) c.as_slice.ensures.value in
+    let found_is : found ≡ blob_id_of (form_of e.seen.blob) text =
+    c.blob_id-found.ensures.value ∙ (ap (blob_id_of c.form.result) c.as_slice.ensures.value ∙ ap (λ (g : Form). blob_id_of g text) c.form.ensures) in
     let same : found ≡ e.seen.blob = search rules in
     let new = c.push_slice.new.self in
     let added : new ≡ c.args.into.now ++ text = c.in_ok-push_slice.ensures ∙ ap (λ (l : List ℕ). c.args.into.now ++ l) c.as_slice-2.ensures.value in
