@@ -1,12 +1,16 @@
 -- What the calls of a keeper mean at the control door.
-use Rattle.std.proofs.Common.{◌≡◌, ◌≤◌, ◌⊎◌, inl, inr, ℕ, Bool, true, false, List, [], ◌++◌, length, drop, Option, Some, None, is_some, is_ok, OnOk, Result, Ok, Err, refl, sym, ap, ◌∙◌, subst, arith, if◌then◌else◌}
+use Rattle.std.proofs.Common.{◌≡◌, ◌==◌, ◌≤◌, ◌⊎◌, inl, inr, ℕ, Bool, true, false, List, [], ◌++◌, length, drop, Option, Some, None, is_some, is_ok, OnOk, Result, Ok, Err, refl, sym, ap, ◌∙◌, subst, arith, if◌then◌else◌}
 use Rattle.std.specs.List.{Contains}
 use Rattle.line_door.specs.Acts.{ConnectionState, Said, Departure, Plain, Memory, Disk, Acts, held_if}
 use Rattle.line_door.specs.Making.{closes}
 use Rattle.edge_io.specs.Phrases.{Says}
 use Rattle.edge_io.specs.declared.sink.SinkFault.{SinkFault}
 use Rattle.line_door.proofs.Acting.{acts-by_held, acts-closing, acts-silent}
-use Rattle.arch_model.specs.Archives.{Archive, live, text_of}
+use Rattle.arch_base.specs.declared.ids.Form.{Form}
+use Rattle.arch_model.specs.Archives.{Archive, Entry, live, text_of}
+use Rattle.arch_model.specs.Listings.{row_at, row_in}
+use Rattle.arch_model.specs.Overviews.{id_fact}
+use Rattle.arch_model.specs.Rows.{row_of}
 use Rattle.arch_model.specs.Delivery.{applied, answer_line}
 use Rattle.arch_model.specs.Keeping.{KeeperMoves, OnlyRead, CommandGives, AnswerCause, Settles, ReopeningRefused, OpeningWhy, ending, Keeper}
 use Rattle.arch_model.specs.Shelves.{IsUndamaged, ReadingWhy}
@@ -21,6 +25,7 @@ use Rattle.arch_model.specs.declared.text_refusal.TextRefusal.TheVariants as rea
 use Rattle.arch_model.proofs.Keepers.{settled-is, settled-sure, moves-same, moves-read, fits-held}
 use Rattle.keep_course.proofs.Commands.{all-said, commanded}
 use Rattle.answer_lines.specs.Lines.{whole_line, memory_word, disk_word, unread_words, unopened_words}
+use Rattle.control_door.specs.Threads.{id_of, own_id_of}
 use Rattle.control_door.specs.Requests.{Request, Shows, Threads, Lists, Reindexes, Quits, Mistakes, Exceeds, Ahead, Asked, Unfinished, ahead}
 use Rattle.control_door.specs.Door as door
 use Rattle.control_door.specs.Door.{Waiting, waiting, keeper_asked, keeper_asked_at, asks, asked_to_show, said_opening, said_to, goes_on, carries_out, doubts, answered, refused_memory, refused_disk, epochs_words, shown, threaded, reindexed_words, bad_word}
@@ -73,6 +78,18 @@ pub on-weaker : {T E : Type 0} (r : Result T E) (P Q : Type 0) → (P → Q) →
 on-weaker (Ok x) P Q less holds = less holds
 on-weaker (Err e) P Q less holds = tt
 
+-- The id in the row of a message is that of its text, whichever form the ids have.
+row-own : (form : Form) (e : Entry) → (row_at form e).id ≡ id_fact e.text
+unfolding row_of
+row-own form e = refl
+
+pub own-id : (form : Form) (es : List Entry) (n : ℕ) → id_of (row_in form es n) ≡ own_id_of (text_of es n)
+own-id form [] n = refl
+own-id form (e ∷ es) n = step (e.number == n) (own-id form es n) where
+  step : (t : Bool) → id_of (row_in form es n) ≡ own_id_of (text_of es n) → id_of (if t then Some (row_at form e) else row_in form es n) ≡ own_id_of (if t then Some e.text else text_of es n)
+  step true rest = row-own form e
+  step false rest = rest
+
 -- Out of memory for a tree.
 pub acts-unthreaded : (moment : ℕ) (s : LastKnown) (number : ℕ) (rest : List ℕ) (i j : ConnectionState) (sent : Result Unit SinkFault) → j.disk ≡ i.disk → Says memory_word i.out i.lost j.out j.lost sent
     → Acts (said_to moment s (Threads number) rest) i (held_if (is_ok sent) (waiting rest false)) s j
@@ -80,10 +97,10 @@ acts-unthreaded moment s number rest i j sent same words =
     acts-by_held (said_to moment s (Threads number) rest) Memory (goes_on rest memory_word s) i j (waiting rest false) s sent refl refl same (omega (arith, same)) words refl
 
 -- The epochs are listed.
-pub acts-listed : (moment : ℕ) (s : LastKnown) (rest : List ℕ) (i j : ConnectionState) (sent : Result Unit SinkFault) → j.disk ≡ i.disk → Says (epochs_words s.archive.entries) i.out i.lost j.out j.lost sent
+pub acts-listed : (moment : ℕ) (s : LastKnown) (rest : List ℕ) (i j : ConnectionState) (sent : Result Unit SinkFault) → j.disk ≡ i.disk → Says (epochs_words s.archive.config.form s.archive.entries) i.out i.lost j.out j.lost sent
     → Acts (said_to moment s Lists rest) i (held_if (is_ok sent) (waiting rest false)) s j
 acts-listed moment s rest i j sent kept words =
-    acts-by_held (said_to moment s Lists rest) Plain (goes_on rest (epochs_words s.archive.entries) s) i j (waiting rest false) s sent refl refl kept (omega (arith, kept)) words refl
+    acts-by_held (said_to moment s Lists rest) Plain (goes_on rest (epochs_words s.archive.config.form s.archive.entries) s) i j (waiting rest false) s sent refl refl kept (omega (arith, kept)) words refl
 
 -- What was asked for was not read.
 pub acts-unread : (moment : ℕ) (s : LastKnown) (request : Request) (rest : List ℕ) (i j : ConnectionState) (sent : Result Unit SinkFault) (refusal : TextRefusal)

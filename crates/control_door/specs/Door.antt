@@ -1,6 +1,7 @@
 -- What the control door answers. Its session is the bytes that are not answered yet, and its
 -- requests read and change an archive.
 use Rattle.std.specs.Prelude.{◌+◌, ◌*◌, ℕ, zero, suc, Bool, true, false, List, [], ◌∷◌, ◌++◌, length, codes, decimal, Option, Some, None, if◌then◌else◌}
+use Rattle.arch_base.specs.declared.ids.Form.{Form}
 use Rattle.line_door.specs.Acts.{Said, Departure}
 use Rattle.line_door.specs.Making.{says, closes, in_ways}
 use Rattle.line_door.specs.Plain.{silent}
@@ -44,20 +45,20 @@ abbrev pub epoch_words : ℕ → List ℕ → List ℕ
 epoch_words epoch bytes = whole_line (codes "epoch "
     ++ (decimal epoch ++ 32 ∷ decimal (length bytes))) ++ whole_line bytes
 
--- The words of an epoch. One without an entry has none.
-abbrev pub listed : ℕ → List Entry → List ℕ
-listed epoch [] = []
-listed epoch (e ∷ es) = epoch_words epoch (epoch_bytes (e ∷ es))
+-- The words of an epoch of a form. One without an entry has none.
+abbrev pub listed : Form → ℕ → List Entry → List ℕ
+listed form epoch [] = []
+listed form epoch (e ∷ es) = epoch_words epoch (epoch_bytes form (e ∷ es))
 
 -- The words of the epochs with numbers below the given one, in order.
-abbrev pub listed_below : ℕ → List Entry → List ℕ
-listed_below zero entries = []
-listed_below (suc epoch) entries =
-    listed_below epoch entries ++ listed epoch (in_epoch entries epoch)
+abbrev pub listed_below : Form → ℕ → List Entry → List ℕ
+listed_below form zero entries = []
+listed_below form (suc epoch) entries =
+    listed_below form epoch entries ++ listed form epoch (in_epoch entries epoch)
 
 -- The words of all epochs, 0 to 63, in order, and a last line.
-abbrev pub epochs_words : List Entry → List ℕ
-epochs_words entries = listed_below epoch_count entries ++ whole_line (codes "end")
+abbrev pub epochs_words : Form → List Entry → List ℕ
+epochs_words form entries = listed_below form epoch_count entries ++ whole_line (codes "end")
 
 -- The line of a reindexing: how many messages are live.
 abbrev pub reindexed_words : ℕ → List ℕ
@@ -101,7 +102,8 @@ answered moment s (Edits number message) rest =
     carries_out (edited s.archive number message moment) rest
 answered moment s (Threads number) rest = goes_on rest
     (threaded (live s.archive.entries) number (text_of (live s.archive.entries) number)) s
-answered moment s Lists rest = goes_on rest (epochs_words s.archive.entries) s
+answered moment s Lists rest =
+    goes_on rest (epochs_words s.archive.config.form s.archive.entries) s
 answered moment s Reindexes rest =
     goes_on rest (reindexed_words (length (live s.archive.entries))) s
 answered moment s Quits rest = closes s []

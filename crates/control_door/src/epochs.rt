@@ -19,7 +19,8 @@ use std::alloc::Global;
 /// The list is made whole before any of it is written.
 pub(crate) fn epochs_of<K: Keep>(alloc: Global, keep: &mut K) -> Result<Bytes, TextRefusal>
     requires { K.ready keep.old ≡ true }
-    ensures words { (a : Archive) → K.holds keep.old a → MakesWords (epochs_words a.entries) result }
+    ensures words { (a : Archive) → K.holds keep.old a
+        → MakesWords (epochs_words a.config.form a.entries) result }
     ensures shelf { ShelfKept K.Shelf keep.old keep.new }
     ensures cause { ReadCause (K.faults keep.old) (K.faults keep.new) result }
     ensures reads { ReadsUpTo epoch_count (K.reads keep.old) (K.reads keep.new) }
@@ -42,7 +43,7 @@ fn push_epochs<K: Keep>(alloc: Global, keep: &mut K, into: &mut Bytes) -> Result
     requires ready { K.ready keep.old ≡ true }
     requires empty { into.old ≡ [] }
     ensures words { (a : Archive) → K.holds keep.old a
-        → AppendsWords (listed_below epoch_count a.entries) [] into.new result }
+        → AppendsWords (listed_below a.config.form epoch_count a.entries) [] into.new result }
     ensures shelf { ShelfKept K.Shelf keep.old keep.new }
     ensures cause { ReadCause (K.faults keep.old) (K.faults keep.new) result }
     ensures reads { ReadsUpTo epoch_count (K.reads keep.old) (K.reads keep.new) }
@@ -67,7 +68,8 @@ fn push_listed<K: Keep>(
 ) -> Result<(), TextRefusal>
     requires { K.ready keep.old ≡ true }
     ensures words { (a : Archive) → K.holds keep.old a
-        → AppendsWords (listed epoch (in_epoch a.entries epoch)) into.old into.new result }
+        → AppendsWords (listed a.config.form epoch (in_epoch a.entries epoch)) into.old into.new
+        result }
     ensures shelf { ShelfKept K.Shelf keep.old keep.new }
     ensures cause { ReadCause (K.faults keep.old) (K.faults keep.new) result }
     ensures reads { ReadsOnce (K.reads keep.old) (K.reads keep.new) }

@@ -21,30 +21,30 @@ use Rattle.http_front.proofs.Arrivals.{latest-append}
 use Rattle.http_front.proofs.Pieces.{RowAndText, Neither, Both, row-and-text}
 
 -- The mails of one more number.
-shown-more : (entries : List Entry) (numbers : List ℕ) (i d : ℕ) → i < length numbers → shown_all entries (take (i + 1) numbers) ≡ shown_all entries (take i numbers) ++ shown_at entries (get_or numbers i d)
-shown-more entries numbers i d lt =
-    ap (shown_all entries) (take_more numbers i d lt)
-    ∙ flat_map-append (shown_at entries) (take i numbers) (get_or numbers i d ∷ [])
-    ∙ ap (λ (xs : List Shown). shown_all entries (take i numbers) ++ xs) (append-nil (shown_at entries (get_or numbers i d)))
+shown-more : (a : Archive) (numbers : List ℕ) (i d : ℕ) → i < length numbers → shown_all a (take (i + 1) numbers) ≡ shown_all a (take i numbers) ++ shown_at a (get_or numbers i d)
+shown-more a numbers i d lt =
+    ap (shown_all a) (take_more numbers i d lt)
+    ∙ flat_map-append (shown_at a) (take i numbers) (get_or numbers i d ∷ [])
+    ∙ ap (λ (xs : List Shown). shown_all a (take i numbers) ++ xs) (append-nil (shown_at a (get_or numbers i d)))
 
 -- The entries of one more number.
-pub entries-more : (name : List ℕ) (entries : List Entry) (numbers : List ℕ) (i d : ℕ) (start old new : List ℕ) → i < length numbers → old ≡ start ++ entries_of name (shown_all entries (take i numbers)) → new ≡ old ++ entries_of name (shown_at entries (get_or numbers i d))
-    → new ≡ start ++ entries_of name (shown_all entries (take (i + 1) numbers))
-entries-more name entries numbers i d start old new lt before appended =
+pub entries-more : (a : Archive) (numbers : List ℕ) (i d : ℕ) (start old new : List ℕ) → i < length numbers → old ≡ start ++ entries_of a.config.name (shown_all a (take i numbers)) → new ≡ old ++ entries_of a.config.name (shown_at a (get_or numbers i d))
+    → new ≡ start ++ entries_of a.config.name (shown_all a (take (i + 1) numbers))
+entries-more a numbers i d start old new lt before appended =
     appended
-    ∙ ap (λ (w : List ℕ). w ++ entries_of name (shown_at entries (get_or numbers i d))) before
-    ∙ append_assoc start (entries_of name (shown_all entries (take i numbers))) (entries_of name (shown_at entries (get_or numbers i d)))
-    ∙ ap (λ (w : List ℕ). start ++ w) (sym (flat_map-append (entry_of_shown name) (shown_all entries (take i numbers)) (shown_at entries (get_or numbers i d))) ∙ ap (entries_of name) (sym (shown-more entries numbers i d lt)))
+    ∙ ap (λ (w : List ℕ). w ++ entries_of a.config.name (shown_at a (get_or numbers i d))) before
+    ∙ append_assoc start (entries_of a.config.name (shown_all a (take i numbers))) (entries_of a.config.name (shown_at a (get_or numbers i d)))
+    ∙ ap (λ (w : List ℕ). start ++ w) (sym (flat_map-append (entry_of_shown a.config.name) (shown_all a (take i numbers)) (shown_at a (get_or numbers i d))) ∙ ap (entries_of a.config.name) (sym (shown-more a numbers i d lt)))
 
 -- The last arrival with one more number.
-pub latest-more : (entries : List Entry) (numbers : List ℕ) (i d : ℕ) (last found next : Option ℕ) → i < length numbers → last ≡ latest_of (shown_all entries (take i numbers)) → found ≡ latest_of (shown_at entries (get_or numbers i d)) → next ≡ later_of last found
-    → next ≡ latest_of (shown_all entries (take (i + 1) numbers))
-latest-more entries numbers i d last found next lt before here joined =
+pub latest-more : (a : Archive) (numbers : List ℕ) (i d : ℕ) (last found next : Option ℕ) → i < length numbers → last ≡ latest_of (shown_all a (take i numbers)) → found ≡ latest_of (shown_at a (get_or numbers i d)) → next ≡ later_of last found
+    → next ≡ latest_of (shown_all a (take (i + 1) numbers))
+latest-more a numbers i d last found next lt before here joined =
     joined
     ∙ ap (λ (o : Option ℕ). later_of o found) before
-    ∙ ap (later_of (latest_of (shown_all entries (take i numbers)))) here
-    ∙ sym (latest-append (shown_all entries (take i numbers)) (shown_at entries (get_or numbers i d)))
-    ∙ ap latest_of (sym (shown-more entries numbers i d lt))
+    ∙ ap (later_of (latest_of (shown_all a (take i numbers)))) here
+    ∙ sym (latest-append (shown_all a (take i numbers)) (shown_at a (get_or numbers i d)))
+    ∙ ap latest_of (sym (shown-more a numbers i d lt))
 
 -- The arrival of a row that is shown with a text.
 arrival-shown : (row : Row) (text : List ℕ) → latest_of (shown_by (Some row) (Some text)) ≡ arrival_of row
@@ -66,14 +66,14 @@ row-shown (Some row) None never = elim never [ ]
 row-shown (Some row) (Some text) (Both r t is) = arrival-shown row text
 
 -- When the mail of a number arrived, by its row.
-latest-is : (entries : List Entry) (n : ℕ) (row : Option Row) → row ≡ shown_row entries n → arrival_by row ≡ latest_of (shown_at entries n)
-latest-is entries n row is = ap arrival_by is ∙ sym (row-shown (shown_row entries n) (shown_text entries n) (row-and-text (live entries) n))
+latest-is : (a : Archive) (n : ℕ) (row : Option Row) → row ≡ shown_row a n → arrival_by row ≡ latest_of (shown_at a n)
+latest-is a n row is = ap arrival_by is ∙ sym (row-shown (shown_row a n) (shown_text a.entries n) (row-and-text a.config.form (live a.entries) n))
 
-pub latest-row : (entries : List Entry) (n : ℕ) (row : Row) → Some row ≡ shown_row entries n → arrival_of row ≡ latest_of (shown_at entries n)
-latest-row entries n row is = latest-is entries n (Some row) is
+pub latest-row : (a : Archive) (n : ℕ) (row : Row) → Some row ≡ shown_row a n → arrival_of row ≡ latest_of (shown_at a n)
+latest-row a n row is = latest-is a n (Some row) is
 
-pub latest-none : (entries : List Entry) (n : ℕ) → None ≡ shown_row entries n → None ≡ latest_of (shown_at entries n)
-latest-none entries n is = latest-is entries n None is
+pub latest-none : (a : Archive) (n : ℕ) → None ≡ shown_row a n → None ≡ latest_of (shown_at a n)
+latest-none a n is = latest-is a n None is
 
 -- A number without a text isn't shown, and has no entry.
 shown-without : (row : Option Row) (text : Option (List ℕ)) → is_some text ≡ false → shown_by row text ≡ []
@@ -81,8 +81,8 @@ shown-without None text none = refl
 shown-without (Some row) None none = refl
 shown-without (Some row) (Some text) none = absurd (cc none)
 
-pub appends-none : (name : List ℕ) (entries : List Entry) (n : ℕ) (old : List ℕ) → is_some (shown_text entries n) ≡ false → old ≡ old ++ entries_of name (shown_at entries n)
-appends-none name entries n old none = sym (append-nil old) ∙ ap (λ (ms : List Shown). old ++ entries_of name ms) (sym (shown-without (shown_row entries n) (shown_text entries n) none))
+pub appends-none : (a : Archive) (n : ℕ) (old : List ℕ) → is_some (shown_text a.entries n) ≡ false → old ≡ old ++ entries_of a.config.name (shown_at a n)
+appends-none a n old none = sym (append-nil old) ∙ ap (λ (ms : List Shown). old ++ entries_of a.config.name ms) (sym (shown-without (shown_row a n) (shown_text a.entries n) none))
 
 -- A row and its text give the entry of a number; without a row there is none.
 pub appends-read : (name : List ℕ) (row : Option Row) (text : Option (List ℕ)) (read wanted old new : List ℕ) → text ≡ Some wanted → read ≡ wanted → new ≡ old ++ entries_of name (shown_by row (Some read)) → new ≡ old ++ entries_of name (shown_by row text)
@@ -120,8 +120,8 @@ three-parts head body tail new start mails made none begun filled ended =
     sym (ended ∙ ap (λ (w : List ℕ). w ++ tail) (filled ∙ ap (λ (w : List ℕ). w ++ body) (begun ∙ ap (λ (w : List ℕ). w ++ head) none)))
 
 -- A feed was made of its three parts.
-pub feed-made : (a : Archive) (numbers new start mails made : List ℕ) → new ≡ [] → start ≡ new ++ feed_start a.config.name (updated_of a.config.born (shown_all a.entries numbers)) → mails ≡ start ++ entries_of a.config.name (shown_all a.entries numbers) → made ≡ mails ++ feed_end
+pub feed-made : (a : Archive) (numbers new start mails made : List ℕ) → new ≡ [] → start ≡ new ++ feed_start a.config.name (updated_of a.config.born (shown_all a numbers)) → mails ≡ start ++ entries_of a.config.name (shown_all a numbers) → made ≡ mails ++ feed_end
     → feed_found a numbers ≡ Gives Feed made
 unfolding feed_of
 feed-made a numbers new start mails made none begun filled ended =
-    ap (Gives Feed) (three-parts (feed_start a.config.name (updated_of a.config.born (shown_all a.entries numbers))) (entries_of a.config.name (shown_all a.entries numbers)) feed_end new start mails made none begun filled ended)
+    ap (Gives Feed) (three-parts (feed_start a.config.name (updated_of a.config.born (shown_all a numbers))) (entries_of a.config.name (shown_all a numbers)) feed_end new start mails made none begun filled ended)

@@ -97,10 +97,10 @@ pub page-unread : (a : Archive) (text : List ℕ) (skip : ℕ) (asked : Option Q
 page-unread a text skip asked none = ap (search_found a text skip) none
 
 -- The page of a search is made of the rows that were found and follow the skipped ones.
-pub search-made : (a : Archive) (query : Query) (skip : ℕ) (name text numbers : List ℕ) (rows : List Row) (page : List ℕ) → name ≡ a.config.name → numbers ≡ take rows_needed (drop skip (search query (live a.entries))) → rows ≡ rows_at a.entries numbers
+pub search-made : (a : Archive) (query : Query) (skip : ℕ) (name text numbers : List ℕ) (rows : List Row) (page : List ℕ) → name ≡ a.config.name → numbers ≡ take rows_needed (drop skip (search query (live a.entries))) → rows ≡ rows_at a numbers
     → page ≡ search_of name text rows skip → search_found a text skip (Some query) ≡ Gives Page page
 search-made a query skip name text numbers rows page named cut read is =
-    let shown : rows ≡ rows_at a.entries (take rows_needed (drop skip (search query (live a.entries)))) = read ∙ ap (rows_at a.entries) cut in
+    let shown : rows ≡ rows_at a (take rows_needed (drop skip (search query (live a.entries)))) = read ∙ ap (rows_at a) cut in
     sym (ap (Gives Page) (is ∙ ap (λ (n : List ℕ). search_of n text rows skip) named ∙ ap (λ (rs : List Row). search_of a.config.name text rs skip) shown))
 
 -- The texts that are read for a path that names something, and for an id of a live mail.
@@ -117,10 +117,10 @@ reads-feed numbers all before now is reads =
     record { later = reads.later; bound = omega (arith, reads.bound, few) }
 
 -- The page of a listing is made of the rows that follow the skipped ones.
-pub listing-made : (a : Archive) (skip asked : ℕ) (name numbers shown : List ℕ) (rows : List Row) (result : Result (List ℕ) NoMemory) → skip ≡ asked → name ≡ a.config.name → numbers ≡ take rows_needed (drop skip (listing (live a.entries))) → shown ≡ numbers → rows ≡ rows_at a.entries shown
+pub listing-made : (a : Archive) (skip asked : ℕ) (name numbers shown : List ℕ) (rows : List Row) (result : Result (List ℕ) NoMemory) → skip ≡ asked → name ≡ a.config.name → numbers ≡ take rows_needed (drop skip (listing (live a.entries))) → shown ≡ numbers → rows ≡ rows_at a shown
     → IfOk result (λ made. made ≡ listing_of name rows skip) → IfOk result (λ made. listing_found a None asked ≡ Gives Page made)
 listing-made a skip asked name numbers shown rows (Ok made) skips named cut same read is =
-    let all : rows ≡ rows_at a.entries (take rows_needed (drop skip (listing (live a.entries)))) = read ∙ ap (rows_at a.entries) (same ∙ cut) in
+    let all : rows ≡ rows_at a (take rows_needed (drop skip (listing (live a.entries)))) = read ∙ ap (rows_at a) (same ∙ cut) in
     subst (λ (k : ℕ). listing_found a None k ≡ Gives Page made) skips
     (ap (Gives Page) (sym (is ∙ ap (λ (n : List ℕ). listing_of n rows skip) named ∙ ap (λ (rs : List Row). listing_of a.config.name rs skip) all)))
 listing-made a skip asked name numbers shown rows (Err refused) skips named cut same read is = tt

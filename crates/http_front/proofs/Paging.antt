@@ -5,7 +5,8 @@ use Rattle.std.proofs.lemmas.List.{length-take, length-drop, reverse-append}
 use Rattle.std.proofs.lemmas.List.Elements.{All-nil, All-cons, All-head, All-tail, All-weaker, All-drop, All-map, All-push}
 use Rattle.std.proofs.lemmas.Bool.Decides.{nat_tests}
 use Rattle.std.proofs.lemmas.Map.Views.{All-insert_key}
-use Rattle.arch_model.specs.Archives.{Entry, live}
+use Rattle.arch_base.specs.declared.ids.Form.{Form}
+use Rattle.arch_model.specs.Archives.{Archive, Entry, live}
 use Rattle.arch_model.specs.Listings.{row_at, row_in, dated, date_cmp, by_date, number_beside, listing}
 use Rattle.html_pages.specs.Lines.{row_line, rows_shown, older_link}
 use Rattle.html_pages.specs.Pages.{listing_of, page_of}
@@ -16,25 +17,25 @@ use Rattle.http_front.specs.Asking.{Gives, rows_needed}
 use Rattle.http_front.specs.Paging.{ListingIsWhole}
 
 -- A number has one row.
-abbrev HasRow : List Entry → ℕ → Type 0
-HasRow entries n = is_some (row_in entries n) ≡ true
+abbrev HasRow : Form → List Entry → ℕ → Type 0
+HasRow form entries n = is_some (row_in form entries n) ≡ true
 
-own-row : (e : Entry) (es : List Entry) (n : ℕ) → e.number ≡ n → is_some (row_in (e ∷ es) n) ≡ true
-own-row e es n same = let hit : (e.number == n) ≡ true = grind (arith, nat_tests, same) in ap (λ (t : Bool). is_some (if t then Some (row_at e) else row_in es n)) hit
+own-row : (form : Form) (e : Entry) (es : List Entry) (n : ℕ) → e.number ≡ n → is_some (row_in form (e ∷ es) n) ≡ true
+own-row form e es n same = let hit : (e.number == n) ≡ true = grind (arith, nat_tests, same) in ap (λ (t : Bool). is_some (if t then Some (row_at form e) else row_in form es n)) hit
 
-later : (e : Entry) (es : List Entry) (n : ℕ) → is_some (row_in es n) ≡ true → is_some (row_in (e ∷ es) n) ≡ true
-later e es n row = by (e.number == n)
+later : (form : Form) (e : Entry) (es : List Entry) (n : ℕ) → is_some (row_in form es n) ≡ true → is_some (row_in form (e ∷ es) n) ≡ true
+later form e es n row = by (e.number == n)
   where
-    by : (t : Bool) → is_some (if t then Some (row_at e) else row_in es n) ≡ true
+    by : (t : Bool) → is_some (if t then Some (row_at form e) else row_in form es n) ≡ true
     by true = refl
     by false = row
 
 -- Each message of some has a row among them.
-rows-there : (entries : List Entry) → All (λ (e : Entry). is_some (row_in entries e.number) ≡ true) entries
-rows-there [] = All-nil (λ (e : Entry). is_some (row_in [] e.number) ≡ true)
-rows-there (e ∷ es) =
-    All-cons (λ (x : Entry). is_some (row_in (e ∷ es) x.number) ≡ true) e es (own-row e es e.number refl)
-    (All-weaker (λ (x : Entry). is_some (row_in es x.number) ≡ true) (λ (x : Entry). is_some (row_in (e ∷ es) x.number) ≡ true) (λ x row. later e es x.number row) es (rows-there es))
+rows-there : (form : Form) (entries : List Entry) → All (λ (e : Entry). is_some (row_in form entries e.number) ≡ true) entries
+rows-there form [] = All-nil (λ (e : Entry). is_some (row_in form [] e.number) ≡ true)
+rows-there form (e ∷ es) =
+    All-cons (λ (x : Entry). is_some (row_in form (e ∷ es) x.number) ≡ true) e es (own-row form e es e.number refl)
+    (All-weaker (λ (x : Entry). is_some (row_in form es x.number) ≡ true) (λ (x : Entry). is_some (row_in form (e ∷ es) x.number) ≡ true) (λ x row. later form e es x.number row) es (rows-there form es))
 
 -- What holds of the number of each message holds of each number by date.
 dates-all : (P : ℕ → Type 0) (es : List Entry) → All (λ (e : Entry). P e.number) es → All (λ (p : ℕ × ℕ). P p.1) (by_date es)
@@ -61,12 +62,12 @@ row-step n front row rest more is same =
     subst (λ (f : List Row). f ++ rest ≡ take (suc n) (f ++ more)) (sym is) (ap (λ (rows : List Row). row ∷ rows) same)
 
 -- The rows of the first numbers are the first rows.
-rows-taken : (entries : List Entry) (ns : List ℕ) (n : ℕ) → All (HasRow (live entries)) ns → rows_at entries (take n ns) ≡ take n (rows_at entries ns)
-rows-taken entries ns zero all = refl
-rows-taken entries [] (suc n) all = refl
-rows-taken entries (m ∷ ms) (suc n) all =
-    let one = row-one (row_in (live entries) m) (All-head (HasRow (live entries)) m ms all) in
-    row-step n (row_shown entries m) one.0 (rows_at entries (take n ms)) (rows_at entries ms) one.1 (rows-taken entries ms n (All-tail (HasRow (live entries)) m ms all))
+rows-taken : (a : Archive) (ns : List ℕ) (n : ℕ) → All (HasRow a.config.form (live a.entries)) ns → rows_at a (take n ns) ≡ take n (rows_at a ns)
+rows-taken a ns zero all = refl
+rows-taken a [] (suc n) all = refl
+rows-taken a (m ∷ ms) (suc n) all =
+    let one = row-one (row_in a.config.form (live a.entries) m) (All-head (HasRow a.config.form (live a.entries)) m ms all) in
+    row-step n (row_shown a m) one.0 (rows_at a (take n ms)) (rows_at a ms) one.1 (rows-taken a ms n (All-tail (HasRow a.config.form (live a.entries)) m ms all))
 
 -- One row more than are shown say as much as all.
 taken-twice : (n : ℕ) (rows : List Row) → take n (take (suc n) rows) ≡ take n rows
@@ -103,5 +104,6 @@ page-cut name rows skip =
 pub listing-whole : ListingIsWhole
 listing-whole a skip =
     let numbers = drop skip (listing (live a.entries)) in
-    let rows = rows-taken a.entries numbers rows_needed (All-drop (HasRow (live a.entries)) skip (listing (live a.entries)) (listed-all (HasRow (live a.entries)) (live a.entries) (rows-there (live a.entries)))) in
-    ap (Gives Page) (ap (λ (rs : List Row). listing_of a.config.name rs skip) rows ∙ page-cut a.config.name (rows_at a.entries numbers) skip)
+    let has = HasRow a.config.form (live a.entries) in
+    let rows = rows-taken a numbers rows_needed (All-drop has skip (listing (live a.entries)) (listed-all has (live a.entries) (rows-there a.config.form (live a.entries)))) in
+    ap (Gives Page) (ap (λ (rs : List Row). listing_of a.config.name rs skip) rows ∙ page-cut a.config.name (rows_at a numbers) skip)

@@ -2,7 +2,8 @@
 use Rattle.std.proofs.Common.{◌≡◌, ◌<◌, ◌≤◌, ◌+◌, ◌-◌, ◌==◌, ℕ, zero, suc, Bool, true, false, List, [], ◌∷◌, ◌++◌, length, drop, get_or, Option, Some, None, is_some, refl, sym, ap, ◌∙◌, length-append, arith, if◌then◌else◌}
 use Rattle.std.specs.List.{flat_map}
 use Rattle.std.proofs.lemmas.List.{at_drop_more, drop_all}
-use Rattle.arch_model.specs.Archives.{Entry, live, text_of}
+use Rattle.arch_base.specs.declared.ids.Form.{Form}
+use Rattle.arch_model.specs.Archives.{Archive, Entry, live, text_of}
 use Rattle.arch_model.specs.Listings.{row_at, row_in}
 use Rattle.arch_model.specs.Rows.{row_of}
 use Rattle.mail_forms.specs.Mailboxes.{mbox_of, quoted, separator}
@@ -16,16 +17,16 @@ pub data RowAndText : Option Row → Option (List ℕ) → Type 0 where
   Neither : RowAndText None None
   Both : (row : Row) (text : List ℕ) → row.mbox ≡ length (mbox_of text) → RowAndText (Some row) (Some text)
 
-mbox-is : (e : Entry) → (row_at e).mbox ≡ length (mbox_of e.text)
+mbox-is : (form : Form) (e : Entry) → (row_at form e).mbox ≡ length (mbox_of e.text)
 unfolding row_of
-mbox-is e = refl
+mbox-is form e = refl
 
-pub row-and-text : (entries : List Entry) (n : ℕ) → RowAndText (row_in entries n) (text_of entries n)
-row-and-text [] n = Neither
-row-and-text (e ∷ es) n = by (e.number == n) (row-and-text es n)
+pub row-and-text : (form : Form) (entries : List Entry) (n : ℕ) → RowAndText (row_in form entries n) (text_of entries n)
+row-and-text form [] n = Neither
+row-and-text form (e ∷ es) n = by (e.number == n) (row-and-text form es n)
   where
-    by : (t : Bool) → RowAndText (row_in es n) (text_of es n) → RowAndText (if t then Some (row_at e) else row_in es n) (if t then Some e.text else text_of es n)
-    by true later = Both (row_at e) e.text (mbox-is e)
+    by : (t : Bool) → RowAndText (row_in form es n) (text_of es n) → RowAndText (if t then Some (row_at form e) else row_in form es n) (if t then Some e.text else text_of es n)
+    by true later = Both (row_at form e) e.text (mbox-is form e)
     by false later = later
 
 -- The length of the piece of a number by its row.
@@ -39,8 +40,8 @@ row-told None (Some text) never = elim never [ ]
 row-told (Some row) None never = elim never [ ]
 row-told (Some row) (Some text) (Both r t is) = sym is
 
-pub piece-of : (entries : List Entry) (n : ℕ) (row : Option Row) → row ≡ shown_row entries n → length (piece_at entries n) ≡ mbox_by row
-piece-of entries n row is = row-told (shown_row entries n) (shown_text entries n) (row-and-text (live entries) n) ∙ ap mbox_by (sym is)
+pub piece-of : (a : Archive) (n : ℕ) (row : Option Row) → row ≡ shown_row a n → length (piece_at a.entries n) ≡ mbox_by row
+piece-of a n row is = row-told (shown_row a n) (shown_text a.entries n) (row-and-text a.config.form (live a.entries) n) ∙ ap mbox_by (sym is)
 
 -- A number without a text has no piece.
 pub no-piece : (text : Option (List ℕ)) → is_some text ≡ false → piece_by text ≡ []

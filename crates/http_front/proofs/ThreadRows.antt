@@ -41,12 +41,12 @@ places-more rows i d row start old new lt is before puts =
 
 -- The page that was made by the lines of a tree.
 pub page-made : (a : Archive) (n : ℕ) (row : Row) (twigs : List Twig) (tree shown : List Line) (items lines : List ThreadLine) (name page : List ℕ) → twigs ≡ thread_twigs (live a.entries) n → tree ≡ tree_lines twigs → shown ≡ tree
-    → flat_map (thread_line a.config.name) items ≡ flat_map (tree_line a.config.name a.entries) shown → lines ≡ items → name ≡ a.config.name → page ≡ thread_of name row lines
-    → Gives Page (tree_page a.config.name a.entries row (tree_lines (thread_twigs (live a.entries) n))) ≡ Gives Page page
+    → flat_map (thread_line a.config.name) items ≡ flat_map (tree_line a) shown → lines ≡ items → name ≡ a.config.name → page ≡ thread_of name row lines
+    → Gives Page (tree_page a row (tree_lines (thread_twigs (live a.entries) n))) ≡ Gives Page page
 unfolding tree_page thread_of
 page-made a n row twigs tree shown items lines name page mails laid_as same laid all named made =
     let laid_is : tree_lines (thread_twigs (live a.entries) n) ≡ shown = ap tree_lines (sym mails) ∙ sym laid_as ∙ sym same in
-    ap (λ (ls : List Line). Gives Page (page_of (title_of row.subject) (flat_map (tree_line a.config.name a.entries) ls))) laid_is
+    ap (λ (ls : List Line). Gives Page (page_of (title_of row.subject) (flat_map (tree_line a) ls))) laid_is
     ∙ ap (λ (w : List ℕ). Gives Page (page_of (title_of row.subject) w)) (sym laid)
     ∙ ap (λ (ls : List ThreadLine). Gives Page (page_of (title_of row.subject) (flat_map (thread_line a.config.name) ls))) (sym all)
     ∙ ap (λ (k : List ℕ). Gives Page (page_of (title_of row.subject) (flat_map (thread_line k) lines))) (sym named)

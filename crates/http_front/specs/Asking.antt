@@ -53,13 +53,13 @@ abbrev pub search_found : Archive → List ℕ → ℕ → Option Query → Foun
 search_found a text skip None = BadRange
 search_found a text skip (Some query) = Gives Page
     (search_of a.config.name text
-    (rows_at a.entries (take rows_needed (drop skip (search query (live a.entries))))) skip)
+    (rows_at a (take rows_needed (drop skip (search query (live a.entries))))) skip)
 
 -- The page of a listing, or of a search where a text is asked for, whatever it is.
 abbrev pub listing_found : Archive → Option (List ℕ) → ℕ → Found
 listing_found a None skip = Gives Page
     (listing_of a.config.name
-    (rows_at a.entries (take rows_needed (drop skip (listing (live a.entries))))) skip)
+    (rows_at a (take rows_needed (drop skip (listing (live a.entries))))) skip)
 listing_found a (Some text) skip = search_found a text skip (query_read text)
 
 -- What is found of a number, if a live mail has the id.
@@ -83,12 +83,12 @@ text_found (Some text) = Gives Text text
 abbrev pub thread_found : Archive → ℕ → Option Row → Found
 thread_found a n None = Missing
 thread_found a n (Some row) = Gives Page
-    (tree_page a.config.name a.entries row (tree_lines (thread_twigs (live a.entries) n)))
+    (tree_page a row (tree_lines (thread_twigs (live a.entries) n)))
 
 -- The feed of these numbers.
 abbrev pub feed_found : Archive → List ℕ → Found
 feed_found a numbers =
-    Gives Feed (feed_of a.config.name a.config.born (shown_all a.entries numbers))
+    Gives Feed (feed_of a.config.name a.config.born (shown_all a numbers))
 
 -- How many mails a feed shows.
 abbrev pub feed_len : ℕ
@@ -100,17 +100,17 @@ abbrev pub named_found : Archive → List ℕ → Named → Found
 named_found a query TheListing = listing_found a (parameter (codes "q") query)
     (skipped (parameter (codes "o") query))
 named_found a query (MessageOf id) = found_of (number_named a.entries id)
-    (λ (n : ℕ). message_found a (shown_row a.entries n) (shown_text a.entries n))
+    (λ (n : ℕ). message_found a (shown_row a n) (shown_text a.entries n))
 named_found a query (TextOf id) = found_of (number_named a.entries id)
     (λ (n : ℕ). text_found (shown_text a.entries n))
 named_found a query (ThreadOf id) = found_of (number_named a.entries id)
-    (λ (n : ℕ). thread_found a n (shown_row a.entries n))
+    (λ (n : ℕ). thread_found a n (shown_row a n))
 named_found a query TheFeed = feed_found a (take feed_len (listing (live a.entries)))
 named_found a query (ThreadFeedOf id) = found_of (number_named a.entries id)
-    (λ (n : ℕ). feed_found a (take feed_len (reverse (oldest_first (thread_rows a.entries n)))))
+    (λ (n : ℕ). feed_found a (take feed_len (reverse (oldest_first (thread_rows a n)))))
 named_found a query TheMailbox = Streams Mailbox (whole_mailbox a.entries)
 named_found a query (ThreadMailboxOf id) = found_of (number_named a.entries id)
-    (λ (n : ℕ). Streams Mailbox (mailbox_at a.entries (oldest_first (thread_rows a.entries n))))
+    (λ (n : ℕ). Streams Mailbox (mailbox_at a.entries (oldest_first (thread_rows a n))))
 
 -- What is found of an address, if the path names one.
 abbrev pub path_found : Archive → List ℕ → Option Named → Found

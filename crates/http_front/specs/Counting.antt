@@ -15,14 +15,14 @@ use Rattle.http_front.specs.Views.{number_named}
 use Rattle.http_front.specs.Reading.{asked_in}
 
 -- How many mails the thread of a number has, if a live mail has the id.
-abbrev pub thread_len : List Entry → Option ℕ → ℕ
-thread_len entries None = 0
-thread_len entries (Some n) = length (oldest_first (thread_rows entries n))
+abbrev pub thread_len : Archive → Option ℕ → ℕ
+thread_len a None = 0
+thread_len a (Some n) = length (oldest_first (thread_rows a n))
 
 -- How many texts are read at most while what is named is said: one for each mail of a mailbox file.
 abbrev pub texts_said : Archive → Named → ℕ
 texts_said a TheMailbox = length (live a.entries)
-texts_said a (ThreadMailboxOf id) = thread_len a.entries (number_named a.entries id)
+texts_said a (ThreadMailboxOf id) = thread_len a (number_named a.entries id)
 texts_said a other = 0
 
 -- How many texts are read at most while what a path names is said, if it names anything.

@@ -10,4 +10,4 @@ use Rattle.http_front.specs.Asking.{Gives, listing_found}
 -- A page of the listing is the one that all rows after the skipped ones make.
 abbrev pub ListingIsWhole : Type 0
 ListingIsWhole = (a : Archive) (skip : ℕ) → listing_found a None skip
-    ≡ Gives Page (listing_of a.config.name (rows_at a.entries (drop skip (listing (live a.entries)))) skip)
+    ≡ Gives Page (listing_of a.config.name (rows_at a (drop skip (listing (live a.entries)))) skip)

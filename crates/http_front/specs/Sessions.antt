@@ -90,13 +90,13 @@ MakesPage found (Err refused) = Unit {0}
 
 -- What is found of a live number, by the form in which it is asked for.
 abbrev pub form_found : Archive → Form → ℕ → Found
-form_found a form.Message n = message_found a (shown_row a.entries n) (shown_text a.entries n)
+form_found a form.Message n = message_found a (shown_row a n) (shown_text a.entries n)
 form_found a form.Text n = text_found (shown_text a.entries n)
-form_found a form.Thread n = thread_found a n (shown_row a.entries n)
+form_found a form.Thread n = thread_found a n (shown_row a n)
 form_found a form.Feed n =
-    feed_found a (take feed_len (reverse (oldest_first (thread_rows a.entries n))))
+    feed_found a (take feed_len (reverse (oldest_first (thread_rows a n))))
 form_found a form.Mailbox n =
-    Streams Mailbox (mailbox_at a.entries (oldest_first (thread_rows a.entries n)))
+    Streams Mailbox (mailbox_at a.entries (oldest_first (thread_rows a n)))
 
 -- Texts are read for a form.
 abbrev pub form_reads : Form → Bool
@@ -104,9 +104,9 @@ form_reads form.Thread = false
 form_reads other = true
 
 -- How many texts are read at most while what is asked for in a form is said, if a live mail has the id.
-abbrev pub form_said : List Entry → Form → Option ℕ → ℕ
-form_said entries form.Mailbox o = thread_len entries o
-form_said entries other o = 0
+abbrev pub form_said : Archive → Form → Option ℕ → ℕ
+form_said a form.Mailbox o = thread_len a o
+form_said a other o = 0
 
 -- How many texts are still to be read for what was found, while it is said.
 abbrev pub unread : Archive → FoundBody → ℕ

@@ -2,7 +2,7 @@
 use Rattle.std.specs.Prelude.{◌≡◌, ℕ, List, [], ◌∷◌, ◌++◌, map, Option, Some, None, codes}
 use Rattle.std.specs.List.{flat_map}
 use Rattle.std.specs.BTreeSet.{insert_key}
-use Rattle.arch_model.specs.Archives.{Entry, live}
+use Rattle.arch_model.specs.Archives.{Archive, live}
 use Rattle.arch_model.specs.Listings.{date_cmp, number_beside}
 use Rattle.arch_model.specs.Threading.{thread_in}
 use Rattle.html_pages.specs.Lines.{row_line, indent, entry_line}
@@ -29,28 +29,28 @@ unfoldable pub oldest_first : List Row → List ℕ
 oldest_first rows = map number_beside (put_places [] rows)
 
 -- The rows of the thread of a number.
-abbrev pub thread_rows : List Entry → ℕ → List Row
-thread_rows entries n = rows_at entries (thread_in (live entries) n)
+abbrev pub thread_rows : Archive → ℕ → List Row
+thread_rows a n = rows_at a (thread_in (live a.entries) n)
 
 -- A line of a page after its indent: the mail of a number, or the id of a mail that the archive doesn't
 -- have. Of a number without a mail, which no tree has, there is no line.
-abbrev pub who_line : List ℕ → List Entry → List ℕ → Who → List ℕ
-who_line name entries before (Live n) =
-    flat_map (λ (row : Row). before ++ row_line name row) (row_at entries n)
-who_line name entries before (Ghost id) = before ++ codes "[not found] " ++ escaped id ++ codes "\n"
+abbrev pub who_line : Archive → List ℕ → Who → List ℕ
+who_line a before (Live n) =
+    flat_map (λ (row : Row). before ++ row_line a.config.name row) (row_at a n)
+who_line a before (Ghost id) = before ++ codes "[not found] " ++ escaped id ++ codes "\n"
 
 -- A line of a tree as the page shows it, indented by its depth.
-abbrev pub tree_line : List ℕ → List Entry → Line → List ℕ
-tree_line name entries line = who_line name entries (indent line.depth) line.who
+abbrev pub tree_line : Archive → Line → List ℕ
+tree_line a line = who_line a (indent line.depth) line.who
 
 -- What a line of a tree stands for, as a page has it.
-abbrev pub IsThreadEntryOf : List ℕ → List Entry → Who → Option ThreadEntry → Type 0
-IsThreadEntryOf name entries who None = (before : List ℕ) → who_line name entries before who ≡ []
-IsThreadEntryOf name entries who (Some entry) = (before : List ℕ)
-    → who_line name entries before who ≡ before ++ entry_line name entry
+abbrev pub IsThreadEntryOf : Archive → Who → Option ThreadEntry → Type 0
+IsThreadEntryOf a who None = (before : List ℕ) → who_line a before who ≡ []
+IsThreadEntryOf a who (Some entry) = (before : List ℕ)
+    → who_line a before who ≡ before ++ entry_line a.config.name entry
 
 -- The page of a thread by the lines of its tree. Its title is the subject of the row that was asked
 -- for.
-unfoldable pub tree_page : List ℕ → List Entry → Row → List Line → List ℕ
-tree_page name entries row lines =
-    page_of (title_of row.subject) (flat_map (tree_line name entries) lines)
+unfoldable pub tree_page : Archive → Row → List Line → List ℕ
+tree_page a row lines =
+    page_of (title_of row.subject) (flat_map (tree_line a) lines)

@@ -2,7 +2,7 @@
 use Rattle.std.specs.Prelude.{◌≡◌, ◌≤◌, ◌<◌, ℕ, true, is_some, nat_le, List, [], ◌∷◌, ◌++◌, Option, Some, None, codes, if◌then◌else◌}
 use Rattle.std.specs.List.{flat_map}
 use Rattle.arch_base.specs.Moments.{last_moment}
-use Rattle.arch_model.specs.Archives.{Entry, live, text_of}
+use Rattle.arch_model.specs.Archives.{Archive, Entry, live, text_of}
 use Rattle.arch_model.specs.Listings.{row_in, number_of_id}
 use Rattle.atom_mbox.specs.declared.feeds.Shown.{Shown}
 use Rattle.mail_forms.specs.declared.row.Row.{Row}
@@ -13,8 +13,8 @@ abbrev pub shown_text : List Entry → ℕ → Option (List ℕ)
 shown_text entries n = text_of (live entries) n
 
 -- The row of a live number.
-abbrev pub shown_row : List Entry → ℕ → Option Row
-shown_row entries n = row_in (live entries) n
+abbrev pub shown_row : Archive → ℕ → Option Row
+shown_row a n = row_in a.config.form (live a.entries) n
 
 -- The least live number from one on, of those that have 32 bits, or none.
 abbrev pub IsNextLive : List Entry → ℕ → Option ℕ → Type 0
@@ -33,12 +33,12 @@ one_row None = []
 one_row (Some row) = row ∷ []
 
 -- The row of a number, if it is live.
-abbrev pub row_at : List Entry → ℕ → List Row
-row_at entries n = one_row (shown_row entries n)
+abbrev pub row_at : Archive → ℕ → List Row
+row_at a n = one_row (shown_row a n)
 
 -- The rows of these numbers, in their order.
-abbrev pub rows_at : List Entry → List ℕ → List Row
-rows_at entries numbers = flat_map (row_at entries) numbers
+abbrev pub rows_at : Archive → List ℕ → List Row
+rows_at a numbers = flat_map (row_at a) numbers
 
 -- A mail as a feed shows it. One with an arrival after the last moment, which no archive has, is left
 -- out.
@@ -50,9 +50,9 @@ shown_by (Some row) (Some text) =
     else []
 
 -- The mail of a number as a feed shows it, if it is live.
-abbrev pub shown_at : List Entry → ℕ → List Shown
-shown_at entries n = shown_by (shown_row entries n) (shown_text entries n)
+abbrev pub shown_at : Archive → ℕ → List Shown
+shown_at a n = shown_by (shown_row a n) (shown_text a.entries n)
 
 -- The mails of these numbers, in their order.
-abbrev pub shown_all : List Entry → List ℕ → List Shown
-shown_all entries numbers = flat_map (shown_at entries) numbers
+abbrev pub shown_all : Archive → List ℕ → List Shown
+shown_all a numbers = flat_map (shown_at a) numbers

@@ -52,7 +52,7 @@ pub(crate) fn feed_at<S: Shelf>(
 fn start_feed<S: Shelf>(numbers: &[u32], shelf: &S, into: &mut Bytes) -> Result<(), NoMemory>
     requires { S.ready shelf.now ≡ true }
     ensures { (a : Archive) → S.holds shelf.now a → OnOk result (into.new ≡ into.old
-        ++ feed_start a.config.name (updated_of a.config.born (shown_all a.entries numbers.now))) }
+        ++ feed_start a.config.name (updated_of a.config.born (shown_all a numbers.now))) }
 {
     push_feed_start(&shelf.config().name, updated(numbers, shelf), into)
 }
@@ -62,7 +62,7 @@ fn start_feed<S: Shelf>(numbers: &[u32], shelf: &S, into: &mut Bytes) -> Result<
 fn updated<S: Shelf>(numbers: &[u32], shelf: &S) -> u64
     requires { S.ready shelf.now ≡ true }
     ensures value { (a : Archive) → S.holds shelf.now a
-        → result ≡ updated_of a.config.born (shown_all a.entries numbers.now) }
+        → result ≡ updated_of a.config.born (shown_all a numbers.now) }
     ensures moment { IsMoment result }
 {
     match latest(numbers, shelf) {
@@ -75,7 +75,7 @@ fn updated<S: Shelf>(numbers: &[u32], shelf: &S) -> u64
 fn latest<S: Shelf>(numbers: &[u32], shelf: &S) -> Option<u64>
     requires { S.ready shelf.now ≡ true }
     ensures value { (a : Archive) → S.holds shelf.now a
-        → result ≡ latest_of (shown_all a.entries numbers.now) }
+        → result ≡ latest_of (shown_all a numbers.now) }
     ensures moment { IfSome result IsMoment }
 {
     let mut last = None;
@@ -88,7 +88,7 @@ fn latest<S: Shelf>(numbers: &[u32], shelf: &S) -> Option<u64>
 /// Returns when the mail of a number arrived, if it is live and arrived at a moment.
 fn arrival<S: Shelf>(n: u32, shelf: &S) -> Option<u64>
     requires { S.ready shelf.now ≡ true }
-    ensures value { (a : Archive) → S.holds shelf.now a → result ≡ latest_of (shown_at a.entries n) }
+    ensures value { (a : Archive) → S.holds shelf.now a → result ≡ latest_of (shown_at a n) }
     ensures moment { IfSome result IsMoment }
 {
     match shelf.row(n) {
@@ -133,7 +133,7 @@ fn push_mails<S: Shelf>(
 ) -> Result<(), TextRefusal>
     requires { S.ready shelf.old ≡ true }
     ensures entries { (a : Archive) → S.holds shelf.old a → AppendsOrRefuses
-        (entries_of a.config.name (shown_all a.entries numbers.now)) into.old into.new result }
+        (entries_of a.config.name (shown_all a numbers.now)) into.old into.new result }
     ensures shelf { ShelfKept S.Shelf shelf.old shelf.new }
     ensures cause { ReadCause (S.faults shelf.old) (S.faults shelf.new) result }
     ensures reads { ReadsUpTo (length numbers.now) (S.reads shelf.old) (S.reads shelf.new) }
@@ -158,7 +158,7 @@ fn push_mail<S: Shelf>(
 ) -> Result<(), TextRefusal>
     requires { S.ready shelf.old ≡ true }
     ensures entry { (a : Archive) → S.holds shelf.old a → AppendsOrRefuses
-        (entries_of a.config.name (shown_at a.entries n)) into.old into.new result }
+        (entries_of a.config.name (shown_at a n)) into.old into.new result }
     ensures shelf { ShelfKept S.Shelf shelf.old shelf.new }
     ensures cause { ReadCause (S.faults shelf.old) (S.faults shelf.new) result }
     ensures reads { ReadsOnce (S.reads shelf.old) (S.reads shelf.new) }
@@ -183,7 +183,7 @@ fn push_live<S: Shelf>(
     requires live { (a : Archive) → S.holds shelf.old a
         → is_some (text_of (live a.entries) n) ≡ true }
     ensures entry { (a : Archive) → S.holds shelf.old a → AppendsOrRefuses (entries_of a.config.name
-        (shown_by (shown_row a.entries n) (shown_text a.entries n))) into.old into.new result }
+        (shown_by (shown_row a n) (shown_text a.entries n))) into.old into.new result }
     ensures shelf { ShelfKept S.Shelf shelf.old shelf.new }
     ensures cause { ReadCause (S.faults shelf.old) (S.faults shelf.new) result }
     ensures reads { ReadsOnce (S.reads shelf.old) (S.reads shelf.new) }
@@ -208,7 +208,7 @@ fn push_read<S: Shelf>(
 ) -> Result<(), NoMemory>
     requires { S.ready shelf.now ≡ true }
     ensures { (a : Archive) → S.holds shelf.now a → OnOk result (into.new ≡ into.old
-        ++ entries_of a.config.name (shown_by (shown_row a.entries n) (Some text.now))) }
+        ++ entries_of a.config.name (shown_by (shown_row a n) (Some text.now))) }
 {
     match shelf.row(n) {
         Some(row) => push_entry(alloc, &shelf.config().name, row, text, into),

@@ -145,7 +145,7 @@ fn find_mail<S: Shelf>(
     ensures reads { ReadsIn S.holds (λ a. form_texts form) shelf.old (S.reads shelf.old)
         (S.reads shelf.new) }
     ensures left { LeavesUnreadIn S.holds
-        (λ a. form_said a.entries form (number_named a.entries id.now)) shelf.old result }
+        (λ a. form_said a form (number_named a.entries id.now)) shelf.old result }
 {
     match number_of(alloc, id, shelf) {
         Ok(Some(n)) => find_number(alloc, n, form, shelf),
@@ -181,7 +181,7 @@ fn find_number<S: Shelf>(
     ensures cause { ReadCause (S.faults shelf.old) (S.faults shelf.new) result }
     ensures reads { ReadsIn S.holds (λ a. form_texts form) shelf.old (S.reads shelf.old)
         (S.reads shelf.new) }
-    ensures left { LeavesUnreadIn S.holds (λ a. form_said a.entries form (Some n)) shelf.old result }
+    ensures left { LeavesUnreadIn S.holds (λ a. form_said a form (Some n)) shelf.old result }
 {
     match form {
         Form::Message => message_at(alloc, n, shelf),

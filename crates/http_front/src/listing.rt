@@ -83,7 +83,7 @@ pub(crate) fn rows_of<'a, S: Shelf>(
 ) -> Result<Vec<&'a Row>, NoMemory>
     requires { S.ready shelf.now ≡ true }
     ensures { (a : Archive) → S.holds shelf.now a → IfOk result (λ rows.
-        map (λ row. row.now) rows.items ≡ rows_at a.entries numbers.now) }
+        map (λ row. row.now) rows.items ≡ rows_at a numbers.now) }
 {
     let mut rows = Vec::new(alloc);
     for n in numbers {

@@ -48,7 +48,7 @@ pub(crate) fn message_at<S: Shelf>(
 ) -> Result<FoundBody, TextRefusal>
     requires { S.ready shelf.old ≡ true }
     ensures found { FindsIn S.holds
-        (λ a. message_found a (shown_row a.entries n) (shown_text a.entries n)) (λ a. true)
+        (λ a. message_found a (shown_row a n) (shown_text a.entries n)) (λ a. true)
         shelf.old result }
     ensures shelf { ShelfKept S.Shelf shelf.old shelf.new }
     ensures cause { ReadCause (S.faults shelf.old) (S.faults shelf.new) result }
@@ -71,7 +71,7 @@ pub(crate) fn message_at<S: Shelf>(
 fn page_with<S: Shelf>(alloc: Global, n: u32, text: &[u8], shelf: &S) -> Result<FoundBody, NoMemory>
     requires { S.ready shelf.now ≡ true }
     ensures { (a : Archive) → S.holds shelf.now a
-        → MakesPage (message_found a (shown_row a.entries n) (Some text.now)) result }
+        → MakesPage (message_found a (shown_row a n) (Some text.now)) result }
 {
     match shelf.row(n) {
         Some(row) => page_of(alloc, row, text, shelf),

@@ -34,7 +34,7 @@ pub(crate) fn oldest_of<S: Shelf>(
 ) -> Result<MessageNumbers, NoMemory>
     requires { S.ready shelf.now ≡ true }
     ensures { (a : Archive) → S.holds shelf.now a
-        → IfOk result (λ numbers. numbers ≡ oldest_first (thread_rows a.entries n)) }
+        → IfOk result (λ numbers. numbers ≡ oldest_first (thread_rows a n)) }
 {
     let mut places = places_of(alloc, n, shelf)?;
     let mut numbers = MessageNumbers::new(alloc);
@@ -54,7 +54,7 @@ pub(crate) fn newest_of<S: Shelf>(
 ) -> Result<MessageNumbers, NoMemory>
     requires { S.ready shelf.now ≡ true }
     ensures { (a : Archive) → S.holds shelf.now a → IfOk result (λ numbers.
-        numbers ≡ take count (reverse (oldest_first (thread_rows a.entries n)))) }
+        numbers ≡ take count (reverse (oldest_first (thread_rows a n)))) }
 {
     let mut numbers = oldest_of(alloc, n, shelf)?.into_vec();
     numbers.as_mut_slice().reverse();
@@ -67,7 +67,7 @@ pub(crate) fn newest_of<S: Shelf>(
 fn places_of<S: Shelf>(alloc: Global, n: u32, shelf: &S) -> Result<BTreeSet<Place>, NoMemory>
     requires { S.ready shelf.now ≡ true }
     ensures { (a : Archive) → S.holds shelf.now a
-        → IfOk result (λ places. map number_beside places.keys ≡ oldest_first (thread_rows a.entries n)) }
+        → IfOk result (λ places. map number_beside places.keys ≡ oldest_first (thread_rows a n)) }
 {
     let members = shelf.thread_of(n)?;
     let rows = rows_of(alloc, members.as_slice(), shelf)?;
@@ -90,7 +90,7 @@ fn put_place(row: &Row, places: &mut BTreeSet<Place>) -> Result<(), NoMemory>
 pub(crate) fn thread_at<S: Shelf>(alloc: Global, n: u32, shelf: &S) -> Result<FoundBody, NoMemory>
     requires { S.ready shelf.now ≡ true }
     ensures { (a : Archive) → S.holds shelf.now a
-        → MakesPage (thread_found a n (shown_row a.entries n)) result }
+        → MakesPage (thread_found a n (shown_row a n)) result }
 {
     match shelf.row(n) {
         Some(row) => page_at(alloc, n, row, shelf),
@@ -120,7 +120,7 @@ fn lines_of<'a, S: Shelf>(
     requires { S.ready shelf.now ≡ true }
     ensures { (a : Archive) → S.holds shelf.now a → IfOk result (λ lines.
         flat_map (thread_line a.config.name) lines.items
-        ≡ flat_map (tree_line a.config.name a.entries) tree.now) }
+        ≡ flat_map (tree_line a) tree.now) }
 {
     let mut lines = Vec::new(alloc);
     for line in tree {
@@ -139,7 +139,7 @@ fn push_line<'a, S: Shelf>(
     ensures { (a : Archive) → S.holds shelf.now a → OnOk result (
         flat_map (thread_line a.config.name) lines.new.items
         ≡ flat_map (thread_line a.config.name) lines.old.items
-        ++ tree_line a.config.name a.entries line.now) }
+        ++ tree_line a line.now) }
 {
     match entry_of(&line.who, shelf) {
         Some(entry) => {
@@ -155,7 +155,7 @@ fn push_line<'a, S: Shelf>(
 fn entry_of<'a, S: Shelf>(who: &'a Who, shelf: &'a S) -> Option<ThreadEntry<'a>>
     requires { S.ready shelf.now ≡ true }
     ensures { (a : Archive) → S.holds shelf.now a
-        → IsThreadEntryOf a.config.name a.entries who.now result }
+        → IsThreadEntryOf a who.now result }
 {
     match who {
         Who::Live(n) => match shelf.row(*n) {

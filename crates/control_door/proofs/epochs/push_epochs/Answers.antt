@@ -17,7 +17,7 @@ pub loop-epoch-preserved : goal.loop-epoch-preserved
 loop-epoch-preserved g c = record {
   words = λ a held.
       let more = c.in-Ok.ensures.words a (c.loop-epoch.invariant.shelf.kept a held) in
-      rw add-one (more ∙ ap (λ (xs : List ℕ). xs ++ listed c.loop-epoch.epoch (in_epoch a.entries c.loop-epoch.epoch)) (c.loop-epoch.invariant.words a held));
+      rw add-one (more ∙ ap (λ (xs : List ℕ). xs ++ listed a.config.form c.loop-epoch.epoch (in_epoch a.entries c.loop-epoch.epoch)) (c.loop-epoch.invariant.words a held));
   shelf = stays-joined g.K.Shelf.holds g.K.Shelf.ready g.K.Shelf.alike g.K.Shelf.faults g.met.K.Shelf.alike_joined _ _ _ c.loop-epoch.invariant.shelf c.push_listed.ensures.shelf;
   reads = reads-more _ _ _ _ c.loop-epoch.invariant.reads c.push_listed.ensures.reads;
   kept = c.in-Ok.ensures.cause ∙ c.loop-epoch.invariant.kept;

@@ -8,6 +8,6 @@ use Rattle.http_front.proofs.feed.latest.Given as goal
 
 abbrev pub invariant-loop-n : goal.invariant-loop-n
 invariant-loop-n g l = record {
-  value : (a : Archive) → g.S.Shelf.holds l.shelf a → l.last ≡ latest_of (shown_all a.entries (take l.n-index l.numbers));
+  value : (a : Archive) → g.S.Shelf.holds l.shelf a → l.last ≡ latest_of (shown_all a (take l.n-index l.numbers));
   moment : IfSome l.last IsMoment;
 }

@@ -6,7 +6,7 @@ use Rattle.http_front.proofs.feed.push_mails.Goals as goal
 pub loop-n-preserved : goal.loop-n-preserved
 loop-n-preserved g c = record {
   entries = λ a held.
-      entries-more a.config.name a.entries c.args.numbers.now c.loop-n.n-index _ c.args.into.now c.loop-n.into c.push_mail.new.into c.loop-n-test.true (c.loop-n.invariant.entries a held) (c.in-Ok.ensures.entry a (c.loop-n.invariant.shelf.kept a held));
+      entries-more a c.args.numbers.now c.loop-n.n-index _ c.args.into.now c.loop-n.into c.push_mail.new.into c.loop-n-test.true (c.loop-n.invariant.entries a held) (c.in-Ok.ensures.entry a (c.loop-n.invariant.shelf.kept a held));
   shelf = stays-joined g.S.Shelf.holds g.S.Shelf.ready g.S.Shelf.alike g.S.Shelf.faults g.met.S.Shelf.alike_joined _ _ _ c.loop-n.invariant.shelf c.push_mail.ensures.shelf;
   kept = c.in-Ok.ensures.cause ∙ c.loop-n.invariant.kept;
   reads = reads-more c.loop-n.n-index _ _ _ c.loop-n.invariant.reads c.push_mail.ensures.reads;

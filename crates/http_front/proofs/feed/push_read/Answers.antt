@@ -11,4 +11,4 @@ returns-in-Some g c = λ a held.
     subst (λ (o : Option Row). OnOk c.push_entry.result (c.push_entry.new.into ≡ c.args.into.now ++ entries_of a.config.name (shown_by o (Some c.args.text.now)))) (c.in-Some.ensures a held) (rw (ap (λ (k : Config). k.name) (c.config.ensures a held)) at c.push_entry.ensures)
 
 pub returns-in-None : goal.returns-in-None
-returns-in-None g c = λ a held. appends-no_row a.config.name (shown_row a.entries c.args.n) (Some c.args.text.now) c.args.into.now (c.in-None.ensures a held)
+returns-in-None g c = λ a held. appends-no_row a.config.name (shown_row a c.args.n) (Some c.args.text.now) c.args.into.now (c.in-None.ensures a held)

@@ -15,4 +15,4 @@ returns-in-Ok-None-clause-found g c = λ a held.
 
 pub returns-in-Ok-Some-clause-left : goal.returns-in-Ok-Some-clause-left
 returns-in-Ok-Some-clause-left g c = λ a held.
-    leaves-as a _ (form_said a.entries c.args.form (number_named a.entries c.args.id.now)) c.find_number.result (ap (form_said a.entries c.args.form) (sym (sym (c.in-Ok-Some.ensures a held) ∙ c.in-Ok-Some.field-0-is))) (c.find_number.ensures.left a held)
+    leaves-as a _ (form_said a c.args.form (number_named a.entries c.args.id.now)) c.find_number.result (ap (form_said a c.args.form) (sym (sym (c.in-Ok-Some.ensures a held) ∙ c.in-Ok-Some.field-0-is))) (c.find_number.ensures.left a held)

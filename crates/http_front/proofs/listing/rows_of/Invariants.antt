@@ -8,4 +8,4 @@ use Rattle.http_front.proofs.listing.rows_of.Given as goal
 
 abbrev pub invariant-loop-n : goal.invariant-loop-n
 invariant-loop-n g l = (a : Archive) → g.S.Shelf.holds l.shelf a
-    → map (λ (row : Bor Row). row.now) l.rows.items ≡ rows_at a.entries (take l.n-index l.numbers)
+    → map (λ (row : Bor Row). row.now) l.rows.items ≡ rows_at a (take l.n-index l.numbers)

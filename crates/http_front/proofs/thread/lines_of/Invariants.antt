@@ -7,4 +7,4 @@ use Rattle.http_front.proofs.thread.lines_of.Given as goal
 
 abbrev pub invariant-loop-line : goal.invariant-loop-line
 invariant-loop-line g l = (a : Archive) → g.S.Shelf.holds l.shelf a
-    → flat_map (thread_line a.config.name) l.lines.items ≡ flat_map (tree_line a.config.name a.entries) (take l.line-index l.tree)
+    → flat_map (thread_line a.config.name) l.lines.items ≡ flat_map (tree_line a) (take l.line-index l.tree)
