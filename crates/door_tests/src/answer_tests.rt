@@ -55,8 +55,14 @@ fn each_answer_has_its_line(rt: HostRuntime) -> Result<(), SinkFault> {
     Ok(())
 }
 
-/// Returns whether these ids are written in hexadecimal, in an answer and in a refusal.
-fn says_ids(sink: &mut MemSink, one: ObjectId, two: ObjectId) -> Result<bool, SinkFault> {
+/// Returns whether `words` are what an answer and a refusal with these ids write.
+fn says_ids(
+    sink: &mut MemSink,
+    one: ObjectId,
+    two: ObjectId,
+    words: &[u8],
+) -> Result<bool, SinkFault> {
+    sink.clear();
     say_answer(Answer::Ok { number: 1, id: one }, sink)?;
     say_unread(
         TextRefusal::Damaged {
@@ -65,10 +71,7 @@ fn says_ids(sink: &mut MemSink, one: ObjectId, two: ObjectId) -> Result<bool, Si
         },
         sink,
     )?;
-    Ok(
-        sink.taken()
-            == b"1 ok 1 1d023c572ccd6f3cc82ae855343346b043adaba5\n11 damaged 1d023c572ccd6f3cc82ae855343346b043adaba5 d621b450ae1fbf27a31c9879d84eb9de5473a8b9\n".as_slice(),
-    )
+    Ok(sink.taken() == words)
 }
 
 #[test]
@@ -76,8 +79,30 @@ fn ids_are_in_hexadecimal(rt: HostRuntime) -> Result<(), SinkFault> {
     let mut sink = MemSink::new(rt.alloc(), Numbers::new(rt.alloc()));
     let one = id_of_hex(b"1d023c572ccd6f3cc82ae855343346b043adaba5", Form::Sha1);
     let two = id_of_hex(b"d621b450ae1fbf27a31c9879d84eb9de5473a8b9", Form::Sha1);
+    let words =
+        b"1 ok 1 1d023c572ccd6f3cc82ae855343346b043adaba5\n11 damaged 1d023c572ccd6f3cc82ae855343346b043adaba5 d621b450ae1fbf27a31c9879d84eb9de5473a8b9\n";
     match (one, two) {
-        (Some(one), Some(two)) => assert!(rt; says_ids(&mut sink, one, two)?),
+        (Some(one), Some(two)) => assert!(rt; says_ids(&mut sink, one, two, words)?),
+        _ => assert!(rt; false),
+    }
+    Ok(())
+}
+
+#[test]
+fn ids_of_sha_256_have_64_digits(rt: HostRuntime) -> Result<(), SinkFault> {
+    let mut sink = MemSink::new(rt.alloc(), Numbers::new(rt.alloc()));
+    let one = id_of_hex(
+        b"473a0f4c3be8a93681a267e3b1e9a7dcda1185436fe141f7749120a303721813",
+        Form::Sha256,
+    );
+    let two = id_of_hex(
+        b"2cf8d83d9ee29543b34a87727421fdecb7e3f3a183d337639025de576db9ebb4",
+        Form::Sha256,
+    );
+    let words =
+        b"1 ok 1 473a0f4c3be8a93681a267e3b1e9a7dcda1185436fe141f7749120a303721813\n11 damaged 473a0f4c3be8a93681a267e3b1e9a7dcda1185436fe141f7749120a303721813 2cf8d83d9ee29543b34a87727421fdecb7e3f3a183d337639025de576db9ebb4\n";
+    match (one, two) {
+        (Some(one), Some(two)) => assert!(rt; says_ids(&mut sink, one, two, words)?),
         _ => assert!(rt; false),
     }
     Ok(())

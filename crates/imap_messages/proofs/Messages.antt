@@ -1,6 +1,7 @@
 -- What became of one live message of a FETCH.
 use Rattle.std.proofs.Common.{◌≡◌, ◌==◌, ◌≤◌, ◌<◌, ◌⊎◌, ℕ, Bool, true, false, List, [], ◌∷◌, length, Option, Some, None, is_some, Result, Ok, Err, is_ok, inl, inr, refl, sym, ap, subst, ◌∙◌, arith, if◌then◌else◌}
 use Rattle.arch_base.specs.Counts.{Rose}
+use Rattle.arch_base.specs.declared.ids.Form.{Form}
 use Rattle.mail_forms.specs.declared.row.Row.{Row}
 use Rattle.arch_model.specs.Archives.{Entry, Archive, live, text_of}
 use Rattle.arch_model.specs.Listings.{row_in}
@@ -29,11 +30,11 @@ some-of None e = absurd (cc e)
 some-of (Some x) e = (x, refl)
 
 -- A live message has a row.
-pub row-live : (entries : List Entry) (n : ℕ) → is_some (row_in entries n) ≡ is_some (text_of entries n)
-row-live [] n = refl
-row-live (e ∷ es) n = by (e.number == n) refl (row-live es n)
+pub row-live : (form : Form) (entries : List Entry) (n : ℕ) → is_some (row_in form entries n) ≡ is_some (text_of entries n)
+row-live form [] n = refl
+row-live form (e ∷ es) n = by (e.number == n) refl (row-live form es n)
   where
-    by : (b : Bool) → (e.number == n) ≡ b → is_some (row_in es n) ≡ is_some (text_of es n) → is_some (row_in (e ∷ es) n) ≡ is_some (text_of (e ∷ es) n)
+    by : (b : Bool) → (e.number == n) ≡ b → is_some (row_in form es n) ≡ is_some (text_of es n) → is_some (row_in form (e ∷ es) n) ≡ is_some (text_of (e ∷ es) n)
     by true is more = rw is refl
     by false is more = rw is more
 
@@ -64,26 +65,26 @@ says-why false code i j k refusal.NoMemory sent is kept later out lost same said
 
 module _ (a : Archive) (f : FetchAsked) (s n : ℕ) (lives : is_some (text_of (live a.entries) n) ≡ true) where
   -- The line of a live message has the items of its text and row.
-  line-shown : (text : List ℕ) (row : Row) → text_of (live a.entries) n ≡ Some text → row_in (live a.entries) n ≡ Some row → message_line a (shown_items f.numbering f.items) (told_message s n) ≡ line_with s (items_words text row (shown_items f.numbering f.items))
+  line-shown : (text : List ℕ) (row : Row) → text_of (live a.entries) n ≡ Some text → row_in a.config.form (live a.entries) n ≡ Some row → message_line a (shown_items f.numbering f.items) (told_message s n) ≡ line_with s (items_words text row (shown_items f.numbering f.items))
   line-shown text row has_text has_row =
-      ap (λ (o : Option (List ℕ)). line_if s (shown_items f.numbering f.items) o (row_in (live a.entries) n)) has_text
+      ap (λ (o : Option (List ℕ)). line_if s (shown_items f.numbering f.items) o (row_in a.config.form (live a.entries) n)) has_text
       ∙ ap (λ (o : Option Row). line_if s (shown_items f.numbering f.items) (Some text) o) has_row
 
-  line-is : (made : List ℕ) → MakesItems f (text_of (live a.entries) n) (row_in (live a.entries) n) (Ok made) → message_line a (shown_items f.numbering f.items) (told_message s n) ≡ line_with s made
+  line-is : (made : List ℕ) → MakesItems f (text_of (live a.entries) n) (row_in a.config.form (live a.entries) n) (Ok made) → message_line a (shown_items f.numbering f.items) (told_message s n) ≡ line_with s made
   line-is made makes =
       let text = some-of (text_of (live a.entries) n) lives in
-      let row = some-of (row_in (live a.entries) n) (row-live (live a.entries) n ∙ lives) in
+      let row = some-of (row_in a.config.form (live a.entries) n) (row-live a.config.form (live a.entries) n ∙ lives) in
       line-shown text.0 row.0 text.1 row.1 ∙ ap (line_with s) (sym (makes text.0 row.0 text.1 row.1))
 
   pub line-some : 0 < length (message_line a (shown_items f.numbering f.items) (told_message s n))
   line-some =
       let text = some-of (text_of (live a.entries) n) lives in
-      let row = some-of (row_in (live a.entries) n) (row-live (live a.entries) n ∙ lives) in
+      let row = some-of (row_in a.config.form (live a.entries) n) (row-live a.config.form (live a.entries) n ∙ lives) in
       subst (λ (w : List ℕ). 0 < length w) (sym (line-shown text.0 row.0 text.1 row.1)) (omega arith)
 
   module _ (begun : Bool) (old : List ℕ) (i : ConnectionState) where
     -- The line was appended, or a write failed.
-    pub said : (made : List ℕ) → MakesItems f (text_of (live a.entries) n) (row_in (live a.entries) n) (Ok made) → (j k : ConnectionState) (new : List ℕ) (sent : Result Unit SinkFault) → i.out ≡ j.out → i.lost ≡ j.lost → j.disk ≡ i.disk → k.disk ≡ j.disk
+    pub said : (made : List ℕ) → MakesItems f (text_of (live a.entries) n) (row_in a.config.form (live a.entries) n) (Ok made) → (j k : ConnectionState) (new : List ℕ) (sent : Result Unit SinkFault) → i.out ≡ j.out → i.lost ≡ j.lost → j.disk ≡ i.disk → k.disk ≡ j.disk
         → Waits (line_with s made) old j.out j.lost new k.out k.lost sent → StreamsNext (unread_line (no_code f.tag)) (reads_texts f) (message_line a (shown_items f.numbering f.items) (told_message s n)) begun old i (if is_ok sent then Ok tt else Err stop.Lost) new k
     said made makes j k new (Ok done) out lost same kept waits = (kept ∙ same, subst (λ (w : List ℕ). Waits w old i.out i.lost new k.out k.lost (Ok tt)) (sym (line-is made makes)) (rw (out, lost) waits))
     said made makes j k new (Err fault) out lost same kept waits = (fault, (kept ∙ same, subst (λ (w : List ℕ). Waits w old i.out i.lost new k.out k.lost (Err fault)) (sym (line-is made makes)) (rw (out, lost) waits)))

@@ -77,7 +77,7 @@ module _ (a : Archive) (f : FetchAsked) (told : List ℕ) (i n : ℕ) (within : 
     pub left-gone : (gone : Bool) → is_some (text_of (live a.entries) n) ≡ false → fetch_lines a f (named_from f told i) gone ≡ fetch_lines a f (named_from f told (i + 1)) true
     left-gone gone dead =
         lines-step gone
-        ∙ ap (λ (o : Option (List ℕ)). line_if (i + 1) (shown_items f.numbering f.items) o (row_in (live a.entries) n) ++ fetch_lines a f (named_from f told (i + 1)) (gone || not (is_some (text_of (live a.entries) n)))) (none-of (text_of (live a.entries) n) dead)
+        ∙ ap (λ (o : Option (List ℕ)). line_if (i + 1) (shown_items f.numbering f.items) o (row_in a.config.form (live a.entries) n) ++ fetch_lines a f (named_from f told (i + 1)) (gone || not (is_some (text_of (live a.entries) n)))) (none-of (text_of (live a.entries) n) dead)
         ∙ ap (fetch_lines a f (named_from f told (i + 1))) (ap (λ (x : Bool). gone || not x) dead ∙ or-true gone)
       where
         or-true : (p : Bool) → (p || true) ≡ true

@@ -82,28 +82,28 @@ place-all told p is keys text row =
 
 module _ (a : Archive) (told : List ℕ) (p : Place) (is : IsPlaceAmong told p) where
   -- A live message with a row, and its text.
-  sought-is : (keys : List KeyTree) (text : List ℕ) (row : Row) → text_of (live a.entries) p.uid ≡ Some text → row_in (live a.entries) p.uid ≡ Some row → is_sought a told keys (message_at p) ≡ list_all (tree_matches (text_at p text row)) keys
+  sought-is : (keys : List KeyTree) (text : List ℕ) (row : Row) → text_of (live a.entries) p.uid ≡ Some text → row_in a.config.form (live a.entries) p.uid ≡ Some row → is_sought a told keys (message_at p) ≡ list_all (tree_matches (text_at p text row)) keys
   sought-is keys text row has_text has_row =
-      ap (λ (o : Option (List ℕ)). matches_if told (message_at p) keys o (row_in (live a.entries) p.uid)) has_text
+      ap (λ (o : Option (List ℕ)). matches_if told (message_at p) keys o (row_in a.config.form (live a.entries) p.uid)) has_text
       ∙ ap (λ (o : Option Row). matches_if told (message_at p) keys (Some text) o) has_row
       ∙ place-all told p is keys text row
 
-  text-there : (row : Row) → row_in (live a.entries) p.uid ≡ Some row → (text : List ℕ) × (text_of (live a.entries) p.uid ≡ Some text)
-  text-there row has_row = some-of (text_of (live a.entries) p.uid) (sym (row-live (live a.entries) p.uid) ∙ ap is_some has_row)
+  text-there : (row : Row) → row_in a.config.form (live a.entries) p.uid ≡ Some row → (text : List ℕ) × (text_of (live a.entries) p.uid ≡ Some text)
+  text-there row has_row = some-of (text_of (live a.entries) p.uid) (sym (row-live a.config.form (live a.entries) p.uid) ∙ ap is_some has_row)
 
   -- What a message without a row says.
-  pub no-row : (keys : List KeyTree) → row_in (live a.entries) p.uid ≡ None → is_sought a told keys (message_at p) ≡ false
+  pub no-row : (keys : List KeyTree) → row_in a.config.form (live a.entries) p.uid ≡ None → is_sought a told keys (message_at p) ≡ false
   no-row keys none = ap (λ (o : Option Row). matches_if told (message_at p) keys (text_of (live a.entries) p.uid) o) none ∙ found-none told (message_at p) keys (text_of (live a.entries) p.uid)
 
   -- The keys that read no text, asked with any.
-  pub rows-found : UnreadTextsAreAlike → (keys : List KeyTree) (other : List ℕ) (row : Row) (found : Bool) → row_in (live a.entries) p.uid ≡ Some row → found ≡ list_all (tree_matches (text_at p other row)) (keys_by false keys)
+  pub rows-found : UnreadTextsAreAlike → (keys : List KeyTree) (other : List ℕ) (row : Row) (found : Bool) → row_in a.config.form (live a.entries) p.uid ≡ Some row → found ≡ list_all (tree_matches (text_at p other row)) (keys_by false keys)
       → found ≡ is_sought a told (row_keys keys) (message_at p)
   rows-found law keys other row found has_row result =
       let text = text-there row has_row in
       result ∙ rows-alike law p other text.0 row keys ∙ sym (sought-is (row_keys keys) text.0 row text.1 has_row)
 
   -- Then those that read texts.
-  pub all-found : (keys : List KeyTree) (text : List ℕ) (row : Row) (found : Bool) → row_in (live a.entries) p.uid ≡ Some row → GivesTextIf (list_any tree_reads keys) (text_of (live a.entries) p.uid) (Ok text)
+  pub all-found : (keys : List KeyTree) (text : List ℕ) (row : Row) (found : Bool) → row_in a.config.form (live a.entries) p.uid ≡ Some row → GivesTextIf (list_any tree_reads keys) (text_of (live a.entries) p.uid) (Ok text)
       → is_sought a told (row_keys keys) (message_at p) ≡ true → found ≡ list_all (tree_matches (text_at p text row)) (keys_by true keys) → found ≡ is_sought a told keys (message_at p)
   all-found keys text row found has_row given rows result =
       let t = text-there row has_row in
@@ -120,9 +120,9 @@ module _ (a : Archive) (told : List ℕ) (p : Place) (is : IsPlaceAmong told p) 
 
   -- A message that a key without texts doesn't match isn't found.
   pub none-found : (keys : List KeyTree) → is_sought a told (row_keys keys) (message_at p) ≡ false → false ≡ is_sought a told keys (message_at p)
-  none-found keys rows = by (row_in (live a.entries) p.uid) refl
+  none-found keys rows = by (row_in a.config.form (live a.entries) p.uid) refl
     where
-      by : (o : Option Row) → row_in (live a.entries) p.uid ≡ o → false ≡ is_sought a told keys (message_at p)
+      by : (o : Option Row) → row_in a.config.form (live a.entries) p.uid ≡ o → false ≡ is_sought a told keys (message_at p)
       by None none = sym (no-row keys none)
       by (Some row) has_row =
           let t = text-there row has_row in
@@ -136,7 +136,7 @@ module _ (a : Archive) (told : List ℕ) (p : Place) (is : IsPlaceAmong told p) 
       by : (o : Option (List ℕ)) → text_of (live a.entries) p.uid ≡ o → is_some (text_of (live a.entries) p.uid) ≡ true
       by (Some t) e = ap is_some e
       by None e =
-          let none : is_sought a told keys (message_at p) ≡ false = ap (λ (o : Option (List ℕ)). matches_if told (message_at p) keys o (row_in (live a.entries) p.uid)) e in
+          let none : is_sought a told keys (message_at p) ≡ false = ap (λ (o : Option (List ℕ)). matches_if told (message_at p) keys o (row_in a.config.form (live a.entries) p.uid)) e in
           absurd (cc (none, found))
 
 -- A reason to read one text is one to read more.

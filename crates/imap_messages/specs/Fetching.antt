@@ -88,7 +88,7 @@ line_if sequence items (Some text) (Some row) = line_with sequence (items_words 
 -- The line of a message that a client was told, over the archive now.
 abbrev pub message_line : Archive → List Item → ToldMessage → List ℕ
 message_line a items m = line_if m.sequence items (text_of (live a.entries) m.uid)
-    (row_in (live a.entries) m.uid)
+    (row_in a.config.form (live a.entries) m.uid)
 
 -- The message is gone.
 abbrev pub is_gone : Archive → ToldMessage → Bool

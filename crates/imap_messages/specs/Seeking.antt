@@ -56,7 +56,7 @@ matches_if told m keys (Some text) (Some row) = matches_all told m keys text row
 -- A message that the client was told is live now, and matches all keys.
 abbrev pub is_sought : Archive → List ℕ → List KeyTree → ToldMessage → Bool
 is_sought a told keys m = matches_if told m keys (text_of (live a.entries) m.uid)
-    (row_in (live a.entries) m.uid)
+    (row_in a.config.form (live a.entries) m.uid)
 
 -- The messages that match all keys, by rising numbers.
 unfoldable pub sought : Archive → List ℕ → List KeyTree → List ToldMessage

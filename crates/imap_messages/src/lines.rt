@@ -96,7 +96,7 @@ fn made_items<S: Shelf>(
     requires live { (a : Archive) → S.holds shelf.old a
         → is_some (text_of (live a.entries) uid) ≡ true }
     ensures items { (a : Archive) → S.holds shelf.old a → MakesItems (asked_fetch command.now)
-        (text_of (live a.entries) uid) (row_in (live a.entries) uid) result }
+        (text_of (live a.entries) uid) (row_in a.config.form (live a.entries) uid) result }
     ensures shelf { ShelfKept S.Shelf shelf.old shelf.new }
     ensures reads { ReadsUpTo (if reads_texts (asked_fetch command.now) then 1 else 0)
         (S.reads shelf.old) (S.reads shelf.new) }
@@ -120,7 +120,7 @@ fn row_items<S: Shelf>(
     ensures items { (a : Archive) → S.holds shelf.now a
         → GivesTextIf (reads_texts (asked_fetch command.now)) (text_of (live a.entries) uid) (Ok text.now)
         → MakesItems (asked_fetch command.now)
-        (text_of (live a.entries) uid) (row_in (live a.entries) uid) result }
+        (text_of (live a.entries) uid) (row_in a.config.form (live a.entries) uid) result }
     ensures cause { (n : ℕ) → ReadCause n n result }
 {
     match shelf.row(uid) {

@@ -31,7 +31,7 @@ kept-config a text moment None = new-config (nat_lt a.config.max a.next) refl
 
 choice-config : (a : Archive) (moment : ℕ) (choice : Choice) → (delivered_choice a moment choice).archive.config ≡ a.config
 choice-config a moment (Repeat number) = refl
-choice-config a moment (Take text) = kept-config a text moment (collision a.entries text)
+choice-config a moment (Take text) = kept-config a text moment (collision a.config.form a.entries text)
 
 form-config : (a : Archive) (moment : ℕ) (form : Result (List ℕ) StoredRefusal) → (delivered_form a moment form).archive.config ≡ a.config
 form-config a moment (Ok text) = choice-config a moment (choice_of a text)

@@ -3,6 +3,7 @@ use Rattle.std.proofs.Common.{◌≡◌, ◌+◌, ◌*◌, ◌<◌, ◌≤◌, �
 use Rattle.std.specs.List.{AllByRecursion}
 use Rattle.git_objects.specs.declared.entry_kind.EntryKind.{EntryKind}
 use Rattle.git_objects.specs.declared.entry_kind.EntryKind.TheVariants.{Message, Deletion}
+use Rattle.arch_base.specs.declared.ids.Form.{Form}
 use Rattle.arch_model.specs.Archives.{Entry, Archive, message, deletion, live, messages, text_of}
 use Rattle.arch_model.specs.Validity.{AtEachPlace, EndsLive, IsArchive}
 use Rattle.arch_model.proofs.LiveEntries.{live-message, live-deletion, messages-message, messages-deletion, messages-all, without}
@@ -70,16 +71,16 @@ few_entries a valid =
     omega (arith, all, count, most)
 
 -- There is a line for each entry, and none after them.
-pub line_some : (es : List Entry) (i : ℕ) (found : Option EntryLine) → found ≡ line_at es i → is_some found ≡ true → i + 1 ≤ length es
-line_some es i None is some = absurd (cc)
-line_some es i (Some line) is some =
-    let within = slice_get_within (lines_after [] es) i line (sym is) in
-    let same = length-lines_after [] es in
+pub line_some : (form : Form) (es : List Entry) (i : ℕ) (found : Option EntryLine) → found ≡ line_at form es i → is_some found ≡ true → i + 1 ≤ length es
+line_some form es i None is some = absurd (cc)
+line_some form es i (Some line) is some =
+    let within = slice_get_within (lines_after form [] es) i line (sym is) in
+    let same = length-lines_after form [] es in
     omega (arith, within, same)
 
-pub line_none : (es : List Entry) (i : ℕ) (found : Option EntryLine) → found ≡ line_at es i → is_some found ≡ false → length es ≤ i
-line_none es i found is none = by (slice_get_cases (lines_after [] es) i).1 where
-  by : ((x : EntryLine) × (i < length (lines_after [] es)) × (slice_get (lines_after [] es) i ≡ Some x) × (get_or (lines_after [] es) i x ≡ x))
-      ⊎ ((length (lines_after [] es) ≤ i) × (slice_get (lines_after [] es) i ≡ None)) → length es ≤ i
+pub line_none : (form : Form) (es : List Entry) (i : ℕ) (found : Option EntryLine) → found ≡ line_at form es i → is_some found ≡ false → length es ≤ i
+line_none form es i found is none = by (slice_get_cases (lines_after form [] es) i).1 where
+  by : ((x : EntryLine) × (i < length (lines_after form [] es)) × (slice_get (lines_after form [] es) i ≡ Some x) × (get_or (lines_after form [] es) i x ≡ x))
+      ⊎ ((length (lines_after form [] es) ≤ i) × (slice_get (lines_after form [] es) i ≡ None)) → length es ≤ i
   by (inl more) = absurd (let yes : is_some found ≡ true = ap (λ (o : Option EntryLine). is_some o) (is ∙ more.2) in let wrong : true ≡ false = sym yes ∙ none in cc)
-  by (inr past) = let same = length-lines_after [] es in let low = past.0 in omega (arith, low, same)
+  by (inr past) = let same = length-lines_after form [] es in let low = past.0 in omega (arith, low, same)

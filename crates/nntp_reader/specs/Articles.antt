@@ -55,7 +55,7 @@ row_id (Some row) = row.id
 -- A number and the id of its message, for STAT, NEXT and LAST.
 abbrev pub stat_words : Archive → ℕ → ℕ → List ℕ
 stat_words a shown number =
-    status_line (codes "223 ") shown (row_id (row_in (live a.entries) number))
+    status_line (codes "223 ") shown (row_id (row_in a.config.form (live a.entries) number))
 
 -- What ARTICLE, HEAD or BODY says of a message, if there is one.
 abbrev pub read_words : Archive → Part → Result Chosen Notice → List ℕ

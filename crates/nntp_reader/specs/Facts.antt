@@ -2,7 +2,7 @@
 use Rattle.std.specs.Prelude.{ℕ, nat_le, List, [], ◌∷◌, ◌++◌, decimal, Option, Some, None, if◌then◌else◌}
 use Rattle.std.specs.List.{flat_map}
 use Rattle.mail_forms.specs.declared.row.Row.{Row}
-use Rattle.arch_model.specs.Archives.{Entry}
+use Rattle.arch_model.specs.Archives.{Archive, live}
 use Rattle.arch_model.specs.Listings.{row_in}
 use Rattle.wire_replies.specs.Blocks.{crlf_line}
 use Rattle.shelf_doors.specs.Numbers.{live_in}
@@ -36,9 +36,9 @@ fact_line fact.Lines shown row = from_row (λ r. header_line shown (decimal r.li
 fact_line (fact.ArrivedSince moment) shown row = from_row (new_line moment) row
 
 -- The line of a number.
-abbrev pub line_at : Fact → List Entry → ℕ → List ℕ
-line_at what entries n = fact_line what n (row_in entries n)
+abbrev pub line_at : Fact → Archive → ℕ → List ℕ
+line_at what a n = fact_line what n (row_in a.config.form (live a.entries) n)
 
 -- The lines of the live numbers from `first` to `last`, in order.
-unfoldable pub fact_lines : Fact → List Entry → ℕ → ℕ → List ℕ
-fact_lines what entries first last = flat_map (line_at what entries) (live_in entries first last)
+unfoldable pub fact_lines : Fact → Archive → ℕ → ℕ → List ℕ
+fact_lines what a first last = flat_map (line_at what a) (live_in (live a.entries) first last)

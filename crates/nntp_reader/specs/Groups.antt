@@ -58,7 +58,7 @@ no_group_line (Some name) = notice_line notice.NoSuchGroup
 -- What LISTGROUP says of its group: the live numbers in a range.
 abbrev pub group_list : Archive → Range → List ℕ
 group_list a range = group_line a (codes " list follows")
-    ++ (fact_lines fact.Number (live a.entries) range.first range.last ++ block_end)
+    ++ (fact_lines fact.Number a range.first range.last ++ block_end)
 
 -- What GROUP says.
 abbrev pub group_words : Archive → List ℕ → List ℕ

@@ -27,13 +27,13 @@ header_start = crlf_line (codes "225 headers follow")
 -- A first line, what rows give of one message, and the end; or why there is none.
 abbrev pub single_words : List ℕ → Fact → Archive → Result Chosen Notice → List ℕ
 single_words start what a (Ok c) =
-    start ++ (fact_line what c.shown (row_in (live a.entries) c.number) ++ block_end)
+    start ++ (fact_line what c.shown (row_in a.config.form (live a.entries) c.number) ++ block_end)
 single_words start what a (Err refusal) = notice_line refusal
 
 -- The same of the live numbers in a range.
 abbrev pub range_words : List ℕ → Fact → Archive → Range → Result ℕ Notice → List ℕ
 range_words start what a range (Ok n) =
-    start ++ (fact_lines what (live a.entries) range.first range.last ++ block_end)
+    start ++ (fact_lines what a range.first range.last ++ block_end)
 range_words start what a range (Err refusal) = notice_line refusal
 
 -- What rows give of the articles that a command names.

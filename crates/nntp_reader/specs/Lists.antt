@@ -79,4 +79,4 @@ new_groups_words moment a =
 abbrev pub new_news_words : List ℕ → ℕ → Archive → List ℕ
 new_news_words wildmat moment a = group_block (codes "230 list follows")
     (is_listed (Some wildmat) a.config.name)
-    (fact_lines (fact.ArrivedSince moment) (live a.entries) 1 greatest)
+    (fact_lines (fact.ArrivedSince moment) a 1 greatest)

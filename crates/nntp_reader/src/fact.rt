@@ -37,7 +37,7 @@ pub(crate) fn push_fact<S: Shelf, O: Sink>(
 ) -> Result<(), SinkFault>
     requires { S.ready shelf.now ≡ true }
     ensures said { (a : Archive) → S.holds shelf.now a
-        → Waits (fact_line fact shown (row_in (live a.entries) number)) reply.old
+        → Waits (fact_line fact shown (row_in a.config.form (live a.entries) number)) reply.old
         (O.taken out.old) (O.faults out.old) reply.new (O.taken out.new) (O.faults out.new) result }
     ensures sink { O.alike out.old out.new }
 {

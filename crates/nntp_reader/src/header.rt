@@ -59,7 +59,7 @@ fn say_single<S: Shelf, O: Sink>(
 ) -> Result<(), SinkFault>
     requires { S.ready shelf.now ≡ true }
     ensures said { (a : Archive) → S.holds shelf.now a → SaysTo O.Sink (words_of start.now
-        ++ (fact_line fact chosen.shown (row_in (live a.entries) chosen.number) ++ block_end))
+        ++ (fact_line fact chosen.shown (row_in a.config.form (live a.entries) chosen.number) ++ block_end))
         out.old out.new result }
     ensures sink { O.alike out.old out.new }
 {

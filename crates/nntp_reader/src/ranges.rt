@@ -27,7 +27,7 @@ pub(crate) fn say_lines<S: Shelf, O: Sink>(
 ) -> Result<(), SinkFault>
     requires { S.ready shelf.now ≡ true }
     ensures said { (a : Archive) → S.holds shelf.now a → SaysTo O.Sink (words_of start.now
-        ++ (fact_lines fact (live a.entries) range.first range.last ++ block_end)) out.old out.new
+        ++ (fact_lines fact a range.first range.last ++ block_end)) out.old out.new
         result }
     ensures sink { O.alike out.old out.new }
 {
@@ -47,7 +47,7 @@ fn push_lines<S: Shelf, O: Sink>(
 ) -> Result<(), SinkFault>
     requires { S.ready shelf.now ≡ true }
     ensures said { (a : Archive) → S.holds shelf.now a
-        → Waits (fact_lines fact (live a.entries) range.first range.last) reply.old
+        → Waits (fact_lines fact a range.first range.last) reply.old
         (O.taken out.old) (O.faults out.old) reply.new (O.taken out.new) (O.faults out.new) result }
     ensures sink { O.alike out.old out.new }
 {

@@ -3,7 +3,7 @@
 use Rattle.std.specs.Prelude.{ℕ, zero, suc, List, map, min, slice_get, Option, Some, None}
 use Rattle.std.specs.List.{sum_by}
 use Rattle.mail_forms.specs.declared.row.Row.{Row}
-use Rattle.arch_model.specs.Archives.{Entry, Archive, live}
+use Rattle.arch_model.specs.Archives.{Archive, live}
 use Rattle.arch_model.specs.Listings.{row_in}
 use Rattle.shelf_doors.specs.Mailboxes.{mailbox_range}
 use Rattle.shelf_doors.specs.Numbers.{live_in}
@@ -16,17 +16,20 @@ wire_octets None = 0
 wire_octets (Some row) = row.wire
 
 -- A live message by its number, and the length of its wire form.
-abbrev pub size_of : List Entry → ℕ → MailSize
-size_of entries n = record { number = n; octets = wire_octets (row_in entries n) }
+abbrev pub size_of : Archive → ℕ → MailSize
+size_of a n = record {
+  number = n;
+  octets = wire_octets (row_in a.config.form (live a.entries) n);
+}
 
 -- The live messages with numbers in a range, by number.
-unfoldable pub sizes_within : List Entry → ℕ → ℕ → List MailSize
-sizes_within entries first last = map (size_of entries) (live_in entries first last)
+unfoldable pub sizes_within : Archive → ℕ → ℕ → List MailSize
+sizes_within a first last = map (size_of a) (live_in (live a.entries) first last)
 
 -- The live messages of a mailbox over the archive now, by number.
 abbrev pub snapshot : Archive → ℕ → List MailSize
 snapshot a index =
-    sizes_within (live a.entries) (mailbox_range a index).first (mailbox_range a index).last
+    sizes_within a (mailbox_range a index).first (mailbox_range a index).last
 
 -- The maildrop that PASS takes. The moment of the archive's making is a part of each unique id.
 abbrev pub maildrop_of : Archive → ℕ → Maildrop

@@ -49,7 +49,7 @@ pub(crate) fn take_maildrop<S: Shelf>(
 ) -> Result<Maildrop, NoMemory>
     requires { S.ready shelf.now ≡ true }
     ensures { (a : Archive) → S.holds shelf.now a → IfOk result (λ d. (d.born ≡ a.config.born)
-        × (d.mails ≡ sizes_within (live a.entries) range.first range.last)) }
+        × (d.mails ≡ sizes_within a range.first range.last)) }
 {
     let mut mails = Sequence::new(alloc);
     push_mails(range, shelf, &mut mails)?;
@@ -67,7 +67,7 @@ fn push_mails<S: Shelf>(
 ) -> Result<(), NoMemory>
     requires { S.ready shelf.now ≡ true }
     ensures { (a : Archive) → S.holds shelf.now a → OnOk result (mails.new
-        ≡ mails.old ++ sizes_within (live a.entries) range.first range.last) }
+        ≡ mails.old ++ sizes_within a range.first range.last) }
 {
     let mut next = live_within(range.first, range.last, shelf);
     while let Some(number) = next {
@@ -82,7 +82,7 @@ fn push_mails<S: Shelf>(
 /// Returns a live message as a client knows it.
 fn mail_size<S: Shelf>(number: u32, shelf: &S) -> MailSize
     requires { S.ready shelf.now ≡ true }
-    ensures { (a : Archive) → S.holds shelf.now a → result ≡ size_in (live a.entries) number }
+    ensures { (a : Archive) → S.holds shelf.now a → result ≡ size_in a number }
 {
     MailSize {
         number,

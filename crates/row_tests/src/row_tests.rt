@@ -24,20 +24,13 @@ fn has_row(alloc: Global, case: &RowCase) -> bool {
     }
 }
 
-/// Returns whether the row of a mail has its blob id and its content id.
-fn has_ids(alloc: Global, case: &RowCase) -> bool {
+/// Returns whether the row of a mail has its blob id, in the form that is asked for, and its content id.
+fn has_ids(alloc: Global, case: &RowCase, form: Form) -> bool {
     if !is_stored(case.text) {
         return false;
     }
-    match row_of(
-        alloc,
-        7,
-        &text_ids(case.text, Form::Sha1),
-        case.text,
-        ARRIVED,
-    ) {
-        Ok(row) => row.blob == blob_id(case.text, Form::Sha1)
-            && row.content == content_id(case.text),
+    match row_of(alloc, 7, &text_ids(case.text, form), case.text, ARRIVED) {
+        Ok(row) => row.blob == blob_id(case.text, form) && row.content == content_id(case.text),
         Err(_) => false,
     }
 }
@@ -52,6 +45,7 @@ fn mails_have_the_rows_that_were_worked_out(rt: HostRuntime) {
 #[test]
 fn rows_have_the_ids_of_their_texts(rt: HostRuntime) {
     for case in &CASES {
-        assert!(rt; has_ids(rt.alloc(), case));
+        assert!(rt; has_ids(rt.alloc(), case, Form::Sha1));
+        assert!(rt; has_ids(rt.alloc(), case, Form::Sha256));
     }
 }

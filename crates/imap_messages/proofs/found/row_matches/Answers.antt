@@ -17,4 +17,4 @@ returns-in-Some-clause-found g c = λ a told held is.
 
 pub returns-in-Some-clause-live : goal.returns-in-Some-clause-live
 returns-in-Some-clause-live g c = λ a held.
-    if-live c.keys_match.result (is_some (text_of (live a.entries) c.args.place.uid) ≡ true) (sym (row-live (live a.entries) c.args.place.uid) ∙ ap is_some (sym (c.row.ensures a held) ∙ ap option_copied c.in-Some.is))
+    if-live c.keys_match.result (is_some (text_of (live a.entries) c.args.place.uid) ≡ true) (sym (row-live a.config.form (live a.entries) c.args.place.uid) ∙ ap is_some (sym (c.row.ensures a held) ∙ ap option_copied c.in-Some.is))

@@ -11,7 +11,7 @@ invariant-loop-next g l = record {
   so_far :
       (a : Archive) → g.S.Shelf.holds l.shelf a →
       (at : ℕ) × (l.next ≡ first_of (live_in (live a.entries) at l.range.last))
-      × SoFar (fact_lines l.fact (live a.entries) l.range.first l.range.last) (fact_lines l.fact (live a.entries) at l.range.last) l.fn.reply (g.O.Sink.taken l.fn.out) (g.O.Sink.faults l.fn.out) l.reply (g.O.Sink.taken l.out) (g.O.Sink.faults l.out);
+      × SoFar (fact_lines l.fact a l.range.first l.range.last) (fact_lines l.fact a at l.range.last) l.fn.reply (g.O.Sink.taken l.fn.out) (g.O.Sink.faults l.fn.out) l.reply (g.O.Sink.taken l.out) (g.O.Sink.faults l.out);
   within : IfSome l.next (λ n. n ≤ l.range.last);
   sink : g.O.Sink.alike l.fn.out l.out;
 }

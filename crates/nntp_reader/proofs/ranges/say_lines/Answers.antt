@@ -7,15 +7,15 @@ use Rattle.nntp_reader.proofs.ranges.say_lines.Goals as goal
 
 pub returns-in_err-push-clause-said : goal.returns-in_err-push-clause-said
 returns-in_err-push-clause-said g c = λ a held.
-    first-failed (words_of c.args.start.now) (fact_lines c.args.fact (live a.entries) c.args.range.first c.args.range.last) block_end c.new-reply.result c.new-reply.ensures _ _ _ _ _
+    first-failed (words_of c.args.start.now) (fact_lines c.args.fact a c.args.range.first c.args.range.last) block_end c.new-reply.result c.new-reply.ensures _ _ _ _ _
     c.from_residual.result c.from_residual.ensures.0 c.in_err-push.ensures.said
 
 pub returns-in_err-push_lines-clause-said : goal.returns-in_err-push_lines-clause-said
 returns-in_err-push_lines-clause-said g c = λ a held.
-    second-failed (words_of c.args.start.now) (fact_lines c.args.fact (live a.entries) c.args.range.first c.args.range.last) block_end c.new-reply.result c.new-reply.ensures _ _ c.push.new.self _ _ _ c.in_ok-push.ensures.said _ _ _
+    second-failed (words_of c.args.start.now) (fact_lines c.args.fact a c.args.range.first c.args.range.last) block_end c.new-reply.result c.new-reply.ensures _ _ c.push.new.self _ _ _ c.in_ok-push.ensures.said _ _ _
     c.from_residual-in_err-push_lines.result c.from_residual-in_err-push_lines.ensures.0 (c.in_err-push_lines.ensures.said a held)
 
 pub returns-clause-said : goal.returns-clause-said
 returns-clause-said g c = λ a held.
-    three-said (words_of c.args.start.now) (fact_lines c.args.fact (live a.entries) c.args.range.first c.args.range.last) block_end c.new-reply.result c.new-reply.ensures _ _ c.push.new.self _ _ _ c.in_ok-push.ensures.said
+    three-said (words_of c.args.start.now) (fact_lines c.args.fact a c.args.range.first c.args.range.last) block_end c.new-reply.result c.new-reply.ensures _ _ c.push.new.self _ _ _ c.in_ok-push.ensures.said
     c.push_lines.new.reply _ _ _ _ _ c.finish.result (c.in_ok-push_lines.ensures.said a held) c.finish.ensures.said

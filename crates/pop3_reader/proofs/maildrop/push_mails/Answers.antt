@@ -11,7 +11,7 @@ loop-next-preserved g c = record {
       let pushed = c.in-Ok.ensures ∙ ap (λ (m : MailSize). c.loop-next.mails ++ m ∷ []) (c.mail_size.ensures a held) in (
         c.in-Some.number + 1,
         c.live_after-next.ensures.number a held,
-        sizes-rest (live a.entries) before.0 c.args.range.last c.in-Some.number c.loop-next.mails c.push.new.self _ (sym before.1 ∙ c.in-Some.is) pushed before.2,
+        sizes-rest a before.0 c.args.range.last c.in-Some.number c.loop-next.mails c.push.new.self _ (sym before.1 ∙ c.in-Some.is) pushed before.2,
       );
   within = search rules;
 }
@@ -19,4 +19,4 @@ loop-next-preserved g c = record {
 pub returns : goal.returns
 returns g c = λ a held.
     let before = c.loop-next.invariant.so_far a held in
-    sizes-none (live a.entries) before.0 c.args.range.last c.loop-next.mails _ (sym before.1 ∙ c.in_default.is) before.2
+    sizes-none a before.0 c.args.range.last c.loop-next.mails _ (sym before.1 ∙ c.in_default.is) before.2

@@ -10,7 +10,7 @@ invariant-loop-next g l = record {
   so_far :
       (a : Archive) → g.S.Shelf.holds l.shelf a →
       (at : ℕ) × (l.next ≡ first_of (live_in (live a.entries) at l.range.last))
-      × (l.mails ++ sizes_within (live a.entries) at l.range.last ≡ l.fn.mails ++ sizes_within (live a.entries) l.range.first l.range.last);
+      × (l.mails ++ sizes_within a at l.range.last ≡ l.fn.mails ++ sizes_within a l.range.first l.range.last);
   within : IfSome l.next (λ n. n ≤ l.range.last);
 }
 
