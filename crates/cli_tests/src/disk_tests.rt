@@ -122,11 +122,11 @@ fn has_length(disk: &mut MemDisk, kind: FileKind, generation: u64, len: u64) -> 
     disk.length(file) == Ok(len)
 }
 
-/// Returns whether a disk has the files of an archive with one message, by their lengths.
-fn has_files_of_one(disk: &mut MemDisk) -> bool {
+/// Returns whether a disk has the root of an archive, a map of this length and an epoch of that one.
+fn has_files(disk: &mut MemDisk, map: u64, epoch: u64) -> bool {
     let root = has_length(disk, FileKind::Root, 0, 4096);
-    let map = has_length(disk, FileKind::Map, 1, 28);
-    let epoch = has_length(disk, FileKind::Epoch, 2, 316);
+    let map = has_length(disk, FileKind::Map, 1, map);
+    let epoch = has_length(disk, FileKind::Epoch, 2, epoch);
     root && map && epoch
 }
 
@@ -208,7 +208,48 @@ fn an_archive_is_made_filled_and_checked(rt: HostRuntime) {
     let Some(mut disk) = printing_all(rt.alloc(), empty(rt.alloc()), &FILLED) else {
         return assert!(rt; false);
     };
-    assert!(rt; has_files_of_one(&mut disk));
+    assert!(rt; has_files(&mut disk, 28, 316));
+}
+
+/// What the delivery of the message to an archive of SHA-256 ids is answered, and then its removal.
+const TAKEN_WITH_SHA256: &[u8] =
+    b"1 ok 1 70b16dd75f8e20a6ef189426d439d7b42c747bf41f86ce4d7127c6e6fe19cd8f\n";
+
+/// Runs that make such an archive, and fill it.
+const FILLED_WITH_SHA256: [Due<'_>; 5] = [
+    Due {
+        words: &["init", "list", "sha256"],
+        input: b"",
+        status: 0,
+        printed: b"made list\n",
+    },
+    Due {
+        words: &["deliver"],
+        input: MAIL,
+        status: 0,
+        printed: TAKEN_WITH_SHA256,
+    },
+    CHECKED,
+    Due {
+        words: &["remove", "1"],
+        input: b"",
+        status: 0,
+        printed: TAKEN_WITH_SHA256,
+    },
+    Due {
+        words: &["check"],
+        input: b"",
+        status: 0,
+        printed: GONE,
+    },
+];
+
+#[test]
+fn an_archive_of_sha256_ids_is_made_filled_and_checked(rt: HostRuntime) {
+    let Some(mut disk) = printing_all(rt.alloc(), empty(rt.alloc()), &FILLED_WITH_SHA256) else {
+        return assert!(rt; false);
+    };
+    assert!(rt; has_files(&mut disk, 40, 768));
 }
 
 /// A run that removes the message of number 1, which is there.

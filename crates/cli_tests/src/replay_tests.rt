@@ -13,7 +13,7 @@ use mem_archive::MemArchive;
 use std::alloc::Global;
 
 /// Returns the settings of a script.
-fn settings(limit: u64, max: u32) -> Option<Config>
+fn settings(limit: u64, max: u32, form: Form) -> Option<Config>
     requires limit { (1 ≤ limit) × (limit ≤ 1099511627776) }
     requires max { (1 ≤ max) × (max ≤ 2147483647) }
     ensures { IfSome result IsConfig }
@@ -26,7 +26,7 @@ fn settings(limit: u64, max: u32) -> Option<Config>
         max,
         mirror: false,
         born: 1,
-        form: Form::Sha1,
+        form,
     })
 }
 
@@ -53,11 +53,11 @@ fn same(alloc: Global, words: &[&str], config: Config, input: &[u8]) -> Option<b
 }
 
 /// Returns whether a worked run with these settings prints the same over both.
-fn agrees(alloc: Global, worked: &Due<'_>, limit: u64, max: u32) -> bool
+fn agrees(alloc: Global, worked: &Due<'_>, limit: u64, max: u32, form: Form) -> bool
     requires limit { (1 ≤ limit) × (limit ≤ 1099511627776) }
     requires max { (1 ≤ max) × (max ≤ 2147483647) }
 {
-    match settings(limit, max) {
+    match settings(limit, max, form) {
         None => false,
         Some(config) => same(alloc, worked.words, config, worked.input) == Some(true),
     }
@@ -66,17 +66,35 @@ fn agrees(alloc: Global, worked: &Due<'_>, limit: u64, max: u32) -> bool
 /// Returns whether each worked run prints the same over both.
 fn all_agree(alloc: Global) -> bool {
     let [first, made, full, two, one] = &WORKED;
-    let first = agrees(alloc, first, 1_073_741_824, 2_147_483_647);
-    let made = agrees(alloc, made, 1_073_741_824, 2_147_483_647);
-    let full = agrees(alloc, full, 1_073_741_824, 2);
-    let two = agrees(alloc, two, 316, 2_147_483_647);
-    let one = agrees(alloc, one, 317, 2_147_483_647);
+    let first = agrees(alloc, first, 1_073_741_824, 2_147_483_647, Form::Sha1);
+    let made = agrees(alloc, made, 1_073_741_824, 2_147_483_647, Form::Sha1);
+    let full = agrees(alloc, full, 1_073_741_824, 2, Form::Sha1);
+    let two = agrees(alloc, two, 316, 2_147_483_647, Form::Sha1);
+    let one = agrees(alloc, one, 317, 2_147_483_647, Form::Sha1);
     first && made && full && two && one
+}
+
+/// Returns whether the worked runs with an id that is made, and with two epochs, print the same over
+/// both in archives whose objects the SHA-256 names.
+fn all_agree_on_sha256(alloc: Global) -> bool {
+    let [made, _taken, _full, two, _one] = &WORKED;
+    let made = Due {
+        words: &["replay", "list", "sha256"],
+        ..*made
+    };
+    let two = Due {
+        words: &["replay", "list", "sha256", "limit=352"],
+        ..*two
+    };
+    let made = agrees(alloc, &made, 1_073_741_824, 2_147_483_647, Form::Sha256);
+    let two = agrees(alloc, &two, 352, 2_147_483_647, Form::Sha256);
+    made && two
 }
 
 #[test]
 fn a_disk_and_the_plain_archive_print_the_same(rt: HostRuntime) {
     assert!(rt; all_agree(rt.alloc()));
+    assert!(rt; all_agree_on_sha256(rt.alloc()));
 }
 
 /// A script of two messages, each in a piece of its own, and a third piece that asks for both.
@@ -139,7 +157,7 @@ fn played(alloc: Global, engine: Engine<MemDisk>) -> Option<(u8, MemSink)> {
 
 /// Makes an archive on a disk of which one call fails, by its ordinal from 1.
 fn made_over_failing(alloc: Global, ordinal: u64) -> Option<Engine<MemDisk>> {
-    let config = settings(1_073_741_824, 2_147_483_647)?;
+    let config = settings(1_073_741_824, 2_147_483_647, Form::Sha1)?;
     let disk = MemDisk::new(alloc, numbers(alloc, &[ordinal])?);
     Engine::make(alloc, disk, &config).ok()
 }

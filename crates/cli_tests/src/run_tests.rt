@@ -1,7 +1,7 @@
 //! Runs of the program over an input and an output in memory.
 use crate::absent::Absent;
 use crate::disk_tests::Still;
-use arch_base::{Bytes, Config, Numbers};
+use arch_base::{Bytes, Config, Form, Numbers};
 use archive_cli::{Job, read_words, run};
 use disk_model::MemDisk;
 use edge_io::{MemSink, MemSource, Source, SourceFault};
@@ -26,6 +26,14 @@ const FIRST: Due<'_> = Due {
     input: FIRST_SCRIPT,
     status: 0,
     printed: b"1 160\n1 ok 1 1d023c572ccd6f3cc82ae855343346b043adaba5\ntext 103\nFrom: Ann <ann@example.org>\nDate: Thu, 1 Feb 2024 10:00:00 +0000\nSubject: first\nMessage-ID: <a@x>\n\none\n\n",
+};
+
+/// The run of that script over an archive whose objects the SHA-256 names.
+const FIRST_OF_SHA256: Due<'_> = Due {
+    words: &["replay", "list", "sha256"],
+    input: FIRST_SCRIPT,
+    status: 0,
+    printed: b"1 184\n1 ok 1 70b16dd75f8e20a6ef189426d439d7b42c747bf41f86ce4d7127c6e6fe19cd8f\ntext 103\nFrom: Ann <ann@example.org>\nDate: Thu, 1 Feb 2024 10:00:00 +0000\nSubject: first\nMessage-ID: <a@x>\n\none\n\n",
 };
 
 /// Returns the status of a run of words on an input, of which listed reads fail, and the output, of
@@ -88,6 +96,7 @@ pub(crate) fn numbers(alloc: Global, listed: &[u64]) -> Option<Numbers> {
 #[test]
 fn one_message_in_and_the_same_out(rt: HostRuntime) {
     assert!(rt; is_as_due(rt.alloc(), &FIRST));
+    assert!(rt; is_as_due(rt.alloc(), &FIRST_OF_SHA256));
 }
 
 /// A run of an input that is no script.
@@ -111,11 +120,12 @@ fn words_and_scripts_that_are_refused(rt: HostRuntime) {
 }
 
 /// Words of scripts with options.
-const GOOD_OPTIONS: [&[&str]; 4] = [
+const GOOD_OPTIONS: [&[&str]; 5] = [
     &["replay", "list", "limit=1", "slice=1", "max=1"],
     &["replay", "list", "max=2147483647", "limit=1099511627776"],
     &["replay", "list", "slice=1000000"],
     &["replay", "list", "max=7", "slice=50"],
+    &["replay", "list", "max=7", "sha256", "slice=50"],
 ];
 
 #[test]
@@ -126,10 +136,12 @@ fn options_of_a_script(rt: HostRuntime) {
 }
 
 /// Words of scripts with options before the name, twice, or out of form.
-const MALFORMED_OPTIONS: [&[&str]; 7] = [
+const MALFORMED_OPTIONS: [&[&str]; 9] = [
     &["replay", "limit=1", "list"],
     &["limit=1", "replay", "list"],
     &["replay", "list", "max=1", "slice=2", "max=1"],
+    &["replay", "list", "sha256", "slice=2", "sha256"],
+    &["replay", "list", "sha1"],
     &["replay", "list", "limit="],
     &["replay", "list", "limit"],
     &["replay", "list", ""],
@@ -269,12 +281,13 @@ fn words_that_ask_for_a_job(rt: HostRuntime) {
 }
 
 /// Words with `mirror` that ask for an archive.
-const MIRRORS: [&[&str]; 5] = [
+const MIRRORS: [&[&str]; 6] = [
     &["init", "mirror"],
     &["init", "mirror", "mirror"],
     &["init", "list", "mirror"],
     &["init", "list", "mirror", "max=7", "limit=1"],
     &["init", "list", "slice=1", "mirror", "max=7"],
+    &["init", "sha256", "sha256", "mirror"],
 ];
 
 #[test]
@@ -335,7 +348,7 @@ fn words_that_ask_for_no_load(rt: HostRuntime) {
 }
 
 /// Words that start with `init` and are not in the grammar.
-const NO_ARCHIVES: [&[&str]; 10] = [
+const NO_ARCHIVES: [&[&str]; 14] = [
     &["init", "list", "list"],
     &["init", "List"],
     &["init", ""],
@@ -346,6 +359,10 @@ const NO_ARCHIVES: [&[&str]; 10] = [
     &["init", "list", "mirror="],
     &["init", "list", "mirror=1"],
     &["init", "list", "Mirror"],
+    &["init", "list", "sha256", "sha256"],
+    &["init", "list", "sha256", "mirror", "max=7", "sha256"],
+    &["init", "list", "sha256="],
+    &["init", "list", "Sha256"],
 ];
 
 #[test]
@@ -433,6 +450,7 @@ struct Given<'a> {
     slice: u32,
     max: u32,
     mirror: bool,
+    form: Form,
 }
 
 impl Given<'_> {
@@ -440,7 +458,8 @@ impl Given<'_> {
     fn is(&self, config: &Config) -> bool {
         let named = config.name.as_slice() == b"list".as_slice() && config.born == 1;
         let sized = config.limit == self.limit && config.slice == self.slice;
-        named && sized && config.max == self.max && config.mirror == self.mirror
+        let kept = config.mirror == self.mirror && config.form == self.form;
+        named && sized && config.max == self.max && kept
     }
 
     /// Returns whether the words ask for an archive with these settings.
@@ -453,13 +472,14 @@ impl Given<'_> {
 }
 
 /// Words with defaults, and with settings of each kind.
-const SETTINGS: [Given<'_>; 5] = [
+const SETTINGS: [Given<'_>; 7] = [
     Given {
         words: &["replay", "list"],
         limit: 1_073_741_824,
         slice: 50_000,
         max: 2_147_483_647,
         mirror: false,
+        form: Form::Sha1,
     },
     Given {
         words: &["init", "list"],
@@ -467,6 +487,7 @@ const SETTINGS: [Given<'_>; 5] = [
         slice: 50_000,
         max: 2_147_483_647,
         mirror: false,
+        form: Form::Sha1,
     },
     Given {
         words: &["init", "list", "mirror"],
@@ -474,6 +495,7 @@ const SETTINGS: [Given<'_>; 5] = [
         slice: 50_000,
         max: 2_147_483_647,
         mirror: true,
+        form: Form::Sha1,
     },
     Given {
         words: &["init", "list", "slice=5", "max=7"],
@@ -481,6 +503,7 @@ const SETTINGS: [Given<'_>; 5] = [
         slice: 5,
         max: 7,
         mirror: false,
+        form: Form::Sha1,
     },
     Given {
         words: &["init", "list", "max=7", "mirror", "limit=3"],
@@ -488,6 +511,23 @@ const SETTINGS: [Given<'_>; 5] = [
         slice: 50_000,
         max: 7,
         mirror: true,
+        form: Form::Sha1,
+    },
+    Given {
+        words: &["replay", "list", "sha256"],
+        limit: 1_073_741_824,
+        slice: 50_000,
+        max: 2_147_483_647,
+        mirror: false,
+        form: Form::Sha256,
+    },
+    Given {
+        words: &["init", "list", "sha256", "max=7", "mirror"],
+        limit: 1_073_741_824,
+        slice: 50_000,
+        max: 7,
+        mirror: true,
+        form: Form::Sha256,
     },
 ];
 
