@@ -32,8 +32,8 @@ format_byte Sha256 = 2
 
 -- The format and the settings.
 unfoldable pub config_bytes : Config → List ℕ
-config_bytes c = (format_byte c.form ∷ flag c.mirror ∷ []) ++ name_bytes c.name ++ be64 c.limit ++ be32 c.slice
-    ++ be32 c.max ++ be32 c.born
+config_bytes c = (format_byte c.form ∷ flag c.mirror ∷ []) ++ name_bytes c.name ++ be64 c.limit
+    ++ be32 c.slice ++ be32 c.max ++ be32 c.born
 
 -- All fields of a root.
 unfoldable pub fields : Root → List ℕ
