@@ -6,9 +6,9 @@ GREAT, SMALL, MORE = 100_000, 10_000, 20
 WORDS = 11
 
 
-def served(bench, folder):
-    """Returns the memory of a server once its doors are open."""
-    with runs.serving(bench.program, folder) as server:
+def held(program, folder):
+    """Returns the memory of a program's server once its doors are open."""
+    with runs.serving(program, folder) as server:
         return runs.memory_of(server.child.pid)
 
 
@@ -27,8 +27,8 @@ def replayed(bench):
 
 
 def rows(bench):
-    great, small = (served(bench, bench.load_archive(it)) for it in (GREAT, SMALL))
-    wordy = served(bench, bench.archive("wordy", mails.load_mails(GREAT, MORE)))
+    great, small = (held(bench.program, bench.load_archive(it)) for it in (GREAT, SMALL))
+    wordy = held(bench.program, bench.archive("wordy", mails.load_mails(GREAT, MORE)))
     mail, word = (great - small) / (GREAT - SMALL), (wordy - great) / (GREAT * MORE)
     told = f"{GREAT:,} mails"
     yield Row("a mail in `serve`, its words too", told, mail, "bytes")

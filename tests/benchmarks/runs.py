@@ -11,6 +11,7 @@ import time
 from contextlib import contextmanager
 
 from benchmarks import mails
+from lib.entries import RECORDS, words_of
 from lib.served import Server, free_port as any_free_port
 
 TESTS = os.path.dirname(os.path.dirname(os.path.realpath(__file__)))
@@ -104,15 +105,15 @@ class Bench:
         """Runs a script over an archive in memory."""
         run([self.program, "replay", "list"], self.room, file)
 
-    def archive(self, name, texts):
+    def archive(self, name, texts, form="sha1"):
         """Returns the folder of an archive of some mails, which is made at the first call with a name."""
         if name not in self.made:
-            self.made[name] = make_archive(self.program, list(texts), f"{self.room}/{name}")
+            self.made[name] = make_archive(self.program, list(texts), f"{self.room}/{name}", form)
         return self.made[name]
 
-    def load_archive(self, count):
+    def load_archive(self, count, form="sha1"):
         """Returns the folder of an archive of so many mails of the load's kind."""
-        return self.archive(f"load-{count}", mails.load_mails(count))
+        return self.archive(f"load-{count}-{form}", mails.load_mails(count), form)
 
     def copy(self, folder):
         """Returns a copy of an archive's folder, for what changes it. It is on the disk."""
@@ -123,34 +124,34 @@ class Bench:
         return goal
 
 
-def first_epoch(program, stream):
-    """Returns the first epoch of an archive in memory to which a stream was sent."""
-    words, given = [program, "replay", "list"], mails.script(stream + b"epochs\n", 1_048_576)
+def first_epoch(program, stream, form):
+    """Returns the first epoch of an archive of a form in memory to which a stream was sent."""
+    words, given = [program, "replay", "list", *words_of(form)], mails.script(stream + b"epochs\n", 1_048_576)
     printed = subprocess.run(words, input=given, stdout=subprocess.PIPE, check=True).stdout
     head = re.search(rb"\nepoch 0 ([0-9]+)\n", printed)
     return printed[head.end() : head.end() + int(head[1])]
 
 
-def make_archive(program, texts, folder):
-    """Makes an archive of mails, which are for one epoch, in a folder, and returns the folder.
+def make_archive(program, texts, folder, form):
+    """Makes an archive of a form with mails, which are for one epoch, in a folder, and returns the folder.
 
     `init` makes the root, whose numbers are then raised. The epoch is that of the archive in memory."""
     os.mkdir(folder)
-    subprocess.run([program, "init", "list"], cwd=folder, stdout=subprocess.DEVNULL, check=True)
-    epoch = first_epoch(program, mails.deliveries(texts))
+    subprocess.run([program, "init", "list", *words_of(form)], cwd=folder, stdout=subprocess.DEVNULL, check=True)
+    epoch = first_epoch(program, mails.deliveries(texts), form)
     found = re.finditer(rb"blob ([0-9]+)\0", epoch)
-    blobs = [hashlib.sha1(epoch[it.start() : it.end() + int(it[1])]).digest() for it in found]
+    blobs = [hashlib.new(form, epoch[it.start() : it.end() + int(it[1])]).digest() for it in found]
     count = len(blobs)
     assert count == len(texts), (count, len(texts))
     with open(f"{folder}/piv2-store/epoch-0.2", "wb") as it:
         it.write(epoch)
     with open(f"{folder}/piv2-store/map.1", "wb") as it:
         it.write(b"".join(struct.pack(">II", number, 0) + blob for number, blob in enumerate(blobs, 1)))
-    raised = ((0, ">Q", [2]), (95, ">I", [count + 1]), (107, ">Q", [28 * count]), (115, ">QQ", [2, len(epoch)]))
+    raised = ((0, ">Q", [2]), (95, ">I", [count + 1]), (107, ">Q", [RECORDS[form] * count]), (115, ">QQ", [2, len(epoch)]))
     with open(f"{folder}/piv2-store/root", "r+b") as it:
-        for place, form, values in raised:
+        for place, fields, values in raised:
             it.seek(1024 + place)
-            it.write(struct.pack(form, *values))
+            it.write(struct.pack(fields, *values))
     return folder
 
 
