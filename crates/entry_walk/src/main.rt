@@ -1,8 +1,9 @@
 //! Carries out deliveries, removals, purges and edits, and prints the answers and the epochs: `tests/git`
 //! and `tests/epochs` have git judge what it prints.
 //!
-//! The first line of the standard input is the limit of an epoch, in bytes, with ` sha256` after it where
-//! the SHA-256 is to name the objects, in place of the SHA-1. After it come lines `deliver MOMENT LENGTH` and `edit MOMENT NUMBER LENGTH`, each before a message of LENGTH bytes, and
+//! The first line of the standard input is the limit of an epoch, in bytes, with ` sha256` after it
+//! where the SHA-256 is to name the objects, in place of the SHA-1. After it come lines
+//! `deliver MOMENT LENGTH` and `edit MOMENT NUMBER LENGTH`, each before a message of LENGTH bytes, and
 //! lines `remove MOMENT NUMBER` and `purge MOMENT NUMBER`.
 //! Printed are the line of each answer and then, for each epoch that has an entry, the line
 //! `epoch NUMBER LENGTH`, its bytes, and a line feed. What can't be read ends the input.
