@@ -15,11 +15,11 @@ use Rattle.number_map.specs.declared.line.Record.{Record}
 use Rattle.number_map.specs.Records.{record_bytes}
 use Rattle.epoch_file.specs.Entries.{bytes_after}
 use Rattle.epoch_file.specs.Appending.{front_at}
-use Rattle.epoch_file.proofs.Chains.{length-magic}
 use Rattle.root_change.proofs.Roots.{same_test, other_test}
 use Rattle.store_finding.specs.Recovery.{entry_of, record_for, records_from, records_of, map_bytes, bytes_in}
 use Rattle.store_finding.specs.Kept.{in_file, stored_at, stored_after}
 use Rattle.store_finding.specs.declared.entries.StoredEntry.{StoredEntry}
+use Rattle.store_finding.proofs.Magics.{magic_length}
 
 -- A number has no entry if all entries have lesser numbers.
 no_entry : (es : List Entry) (n : ℕ) → AllByRecursion (λ (e : Entry). e.number < n) es → entry_of es n ≡ None
@@ -99,7 +99,7 @@ epoch_more form (e ∷ es) new =
     let all = entries_bytes form None (e ∷ es) in
     let more = bytes_after form (last_commit form None (e ∷ es)) (in_file new) in
     let size = length-append (magic form) all in
-    let there : (length (magic form ++ all) == 0) ≡ false = other_test (length (magic form ++ all)) 0 (λ none. absurd (omega (arith, size, length-magic form, none))) in
+    let there : (length (magic form ++ all) == 0) ≡ false = other_test (length (magic form ++ all)) 0 (λ none. absurd (omega (arith, size, magic_length form, none))) in
     ap (λ (b : List ℕ). magic form ++ b) (entries_more form None (e ∷ es) new) ∙ (sym (append_assoc (magic form) all more) ∙ ap (λ (b : Bool). (magic form ++ all) ++ ((if b then magic form else []) ++ more)) (sym there))
 
 pub bytes_here : (a : Archive) (new : Entry) → epoch_bytes a.config.form (in_epoch (a.entries ++ new ∷ []) new.epoch) ≡ bytes_in a new.epoch ++ (front_at a.config.form (length (bytes_in a new.epoch)) ++ bytes_after a.config.form (last_commit a.config.form None (in_epoch a.entries new.epoch)) (in_file new))

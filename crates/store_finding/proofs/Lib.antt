@@ -8,6 +8,7 @@ pub mod Growing
 pub mod Indexes
 mod Joins
 mod Live
+pub mod Magics
 pub mod Mapped
 pub mod Opened
 mod Opening

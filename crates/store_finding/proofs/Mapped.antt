@@ -1,8 +1,7 @@
 -- The records of an archive are valid, and fill their map.
-use Rattle.std.specs.Prelude.{◌≡◌, ◌+◌, ◌-◌, ◌*◌, ◌==◌, ℕ, zero, suc, Bool, true, false, List, [], ◌∷◌, length, Option, Some, None, if◌then◌else◌, unwrap_or, refl}
+use Rattle.std.specs.Prelude.{◌≡◌, ◌+◌, ◌-◌, ◌*◌, ◌<◌, ◌^◌, ◌==◌, ℕ, zero, suc, Bool, true, false, List, [], ◌∷◌, length, replicate, slice_index, Option, Some, None, if◌then◌else◌, unwrap_or, refl}
 use Rattle.std.specs.List.{AllByRecursion}
 use Rattle.std.proofs.Common.{◌∙◌, ap, subst, inl, inr, arith}
-use Rattle.std.proofs.lemmas.Grind.{common_steps}
 use Rattle.arch_base.specs.Ids.{IsObjectId}
 use Rattle.arch_base.specs.declared.ids.Form.{Form}
 use Rattle.arch_base.specs.declared.ids.Form.TheVariants.{Sha1, Sha256}
@@ -17,9 +16,14 @@ use Rattle.arch_model.specs.Validity.{IsEntry, IsArchive}
 use Rattle.store_finding.specs.Recovery.{entry_of, record_for, records_from, records_of, map_bytes}
 
 -- Zeros are an id of each form.
+zeros_low : (n k : ℕ) → slice_index (replicate n 0) k < 2 ^ 8
+zeros_low zero k = omega arith
+zeros_low (suc n) zero = omega arith
+zeros_low (suc n) (suc k) = zeros_low n k
+
 zero_valid : (form : Form) → IsObjectId form (zero_id form)
-zero_valid Sha1 = record { form_is = refl; len = refl; bytes = λ k. grind (arith, common_steps) }
-zero_valid Sha256 = record { form_is = refl; len = refl; bytes = λ k. grind (arith, common_steps) }
+zero_valid Sha1 = record { form_is = refl; len = refl; bytes = zeros_low 20 }
+zero_valid Sha256 = record { form_is = refl; len = refl; bytes = zeros_low 32 }
 
 -- What holds of both alternatives holds of the chosen one.
 chosen : (P : Entry → Type 0) (f e : Entry) (b : Bool) (rest : Option Entry) → P f → (rest ≡ Some e → P e) → (if b then Some f else rest) ≡ Some e → P e

@@ -1,8 +1,7 @@
 -- The epochs of a root, read one after the other: each is whole, or the first that is damaged.
-use Rattle.std.specs.Prelude.{◌≡◌, ◌≢◌, ◌⊎◌, ◌+◌, ◌<◌, ◌==◌, ◌^◌, ℕ, zero, suc, false, List, [], ◌∷◌, ◌++◌, length, take, drop, map, Option, Some, None, refl}
+use Rattle.std.specs.Prelude.{◌≡◌, ◌≢◌, ◌⊎◌, ◌+◌, ◌<◌, ◌==◌, ◌^◌, ℕ, zero, suc, false, List, [], ◌∷◌, ◌++◌, length, take, map, Option, Some, None, refl}
 use Rattle.std.specs.List.{AllByRecursion}
 use Rattle.std.proofs.Common.{◌∙◌, sym, ap, subst, inl, inr, arith, append_assoc, length-append}
-use Rattle.std.proofs.Math.Seq.{take-append_seam, drop-append_seam}
 use Rattle.std.proofs.lemmas.List.{append-nil, length-map, length-take, nil_from_length}
 use Rattle.std.proofs.lemmas.List.Elements.{filter-append}
 use Rattle.std.proofs.lemmas.Bool.Decides.{nat_tests}
@@ -17,7 +16,6 @@ use Rattle.number_map.specs.declared.line.Record.{Record}
 use Rattle.epoch_file.specs.declared.entry.Seen.{Seen}
 use Rattle.epoch_file.specs.Entries.{EntriesDiffer, EpochEntry, IsEpochEntry, AreEpochEntries, bytes_after, commit_after, chain, last_of, epoch_of}
 use Rattle.epoch_file.specs.Walking.{IsEpoch, EndsEarly}
-use Rattle.epoch_file.proofs.Chains.{length-magic}
 use Rattle.root_slots.specs.declared.root.Root.{Root}
 use Rattle.root_change.specs.Texts.{Fronts}
 use Rattle.store_finding.specs.Files.{epoch_file_of}
@@ -26,6 +24,7 @@ use Rattle.store_finding.specs.Kept.{in_file}
 use Rattle.store_finding.specs.Damage.{AreFirst, named_length, named_bytes, AreWhole, LacksNext}
 use Rattle.store_finding.specs.Joined.{JoinedEntries, AreJoined, StopsAt}
 use Rattle.arch_model.proofs.ValidArchives.{all_weaker}
+use Rattle.store_finding.proofs.Magics.{magic_length}
 use Rattle.store_finding.proofs.Firsts.{all_last}
 use Rattle.store_finding.proofs.Joins.{all_joined, only_here}
 
@@ -44,13 +43,6 @@ chain_joined form parent [] ys = refl
 chain_joined form parent (x ∷ xs) ys =
     let next : Option ObjectId = Some (commit_after form parent x) in
     ap (λ (b : List ℕ). bytes_after form parent x ++ b) (chain_joined form next xs ys) ∙ sym (append_assoc (bytes_after form parent x) (chain form next xs) (chain form (last_of form next xs) ys))
-
--- The magic is the first eight bytes, and the others follow it.
-pub take_magic : (form : Form) (rest : List ℕ) → take 8 (magic form ++ rest) ≡ magic form
-take_magic form rest = ap (λ (n : ℕ). take n (magic form ++ rest)) (sym (length-magic form)) ∙ take-append_seam (magic form) rest
-
-pub drop_magic : (form : Form) (rest : List ℕ) → drop 8 (magic form ++ rest) ≡ rest
-drop_magic form rest = ap (λ (n : ℕ). drop n (magic form ++ rest)) (sym (length-magic form)) ∙ drop-append_seam (magic form) rest
 
 -- The last of valid entries, and the one after some.
 pub valid_after : (xs : List EpochEntry) (y : EpochEntry) (ys : List EpochEntry) → AreEpochEntries (xs ++ y ∷ ys) → IsEpochEntry y
@@ -182,7 +174,7 @@ stops_next differ root files epoch offset others rs here after short whole valid
       stand = stops.stand;
       spelled = split;
       offset_is = is;
-      wanted = inr (elim (zero_or_not (length wrong)) [ inl none ↦ absurd (entry_some form parent stops.wrong (nil_from_length wrong none)) | inr some ↦ omega (arith, size, most, front, head, length-magic form, step, is, some) ]);
+      wanted = inr (elim (zero_or_not (length wrong)) [ inl none ↦ absurd (entry_some form parent stops.wrong (nil_from_length wrong none)) | inr some ↦ omega (arith, size, most, front, head, magic_length form, step, is, some) ]);
       lacks = λ next left more same first stands.
           let one = differ form parent stops.wrong (in_file next) (tail ++ after) more valid_wrong (file_valid next (all_last IsEntry (others ++ stops.more) next first.valid)) (omega (arith, size, most, front, short)) stands in
           stops.no_next next left same (sym one.0) first;

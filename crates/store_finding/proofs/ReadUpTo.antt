@@ -11,7 +11,6 @@ use Rattle.number_map.specs.declared.line.Record.{Record}
 use Rattle.epoch_file.specs.declared.entry.Seen.{Seen}
 use Rattle.epoch_file.specs.Entries.{EntriesDiffer, EpochEntry, AreEpochEntries, bytes_after, commit_after, chain, last_of, epoch_of, EpochsDiffer}
 use Rattle.epoch_file.specs.Walking.{IsEpoch, EndsEarly, IsDamagedEpochAt}
-use Rattle.epoch_file.proofs.Chains.{length-magic}
 use Rattle.root_slots.specs.declared.root.Root.{Root}
 use Rattle.root_slots.specs.Valid.{RootFits}
 use Rattle.root_change.specs.Texts.{Fronts}
@@ -22,7 +21,8 @@ use Rattle.store_finding.specs.declared.join_refusal.Unmatched.{Unmatched}
 use Rattle.store_finding.specs.Damage.{AreFirst, named_length, IsFirstDamage}
 use Rattle.store_finding.specs.Joined.{JoinedEntries, AreJoined, TakesEpoch, FinishesJoin}
 use Rattle.store_finding.specs.Openings.{IsReadUpTo, AreRead}
-use Rattle.store_finding.proofs.Opening.{take_magic, fronts_by, walked_whole, empty_whole, early_next, stops_next, entry_some, valid_after}
+use Rattle.store_finding.proofs.Magics.{magic_length, take_magic}
+use Rattle.store_finding.proofs.Opening.{fronts_by, walked_whole, empty_whole, early_next, stops_next, entry_some, valid_after}
 use Rattle.store_finding.proofs.Undamaged.{prefix_of}
 
 -- The bytes of an epoch's file.
@@ -79,7 +79,7 @@ read_front root files rs epoch offset old less some low up (inr ends) =
 left_bytes : (form : Form) (n offset : ℕ) (bytes : List ℕ) → (ends : EndsEarly form n bytes offset) → take offset bytes ≡ epoch_of form ends.entries
 left_bytes form n offset bytes ends =
     let whole = epoch_of form ends.entries in
-    let size : length whole ≡ offset = (let is = ends.offset_is in omega (arith, is, length-magic form, length-append (magic form) (chain form None ends.entries))) in
+    let size : length whole ≡ offset = (let is = ends.offset_is in omega (arith, is, magic_length form, length-append (magic form) (chain form None ends.entries))) in
     let all : bytes ≡ whole ++ (ends.rest ++ drop n bytes) = sym (take-append-drop n bytes) ∙ (ap (λ (b : List ℕ). b ++ drop n bytes) ends.spelled ∙ append_assoc whole ends.rest (drop n bytes)) in
     ap (take offset) all ∙ (ap (λ (m : ℕ). take m (whole ++ (ends.rest ++ drop n bytes))) (sym size) ∙ take-append_seam whole (ends.rest ++ drop n bytes))
 
@@ -88,13 +88,13 @@ left_within : (form : Form) (n offset : ℕ) (bytes : List ℕ) → EndsEarly fo
 left_within form n offset bytes ends =
     let size : length (take n bytes) ≡ length (epoch_of form ends.entries ++ ends.rest) = ap (λ (b : List ℕ). length b) ends.spelled in
     let is = ends.offset_is in
-    omega (arith, size, is, length-magic form, length-take n bytes, length-append (epoch_of form ends.entries) ends.rest, length-append (magic form) (chain form None ends.entries))
+    omega (arith, size, is, magic_length form, length-take n bytes, length-append (epoch_of form ends.entries) ends.rest, length-append (magic form) (chain form None ends.entries))
 
 -- So a walk up to there reads the same entries.
 again : (form : Form) → EpochsDiffer → (n offset : ℕ) (bytes : List ℕ) (seen : List Seen) → offset < 2 ^ 64 → (ends : EndsEarly form n bytes offset) → (walked : IsEpoch form offset bytes seen) → ends.entries ≡ walked.entries
 again form differ n offset bytes seen short ends walked =
     let is = ends.offset_is in
-    differ form ends.entries walked.entries ends.valid walked.valid (omega (arith, short, is, length-magic form, length-append (magic form) (chain form None ends.entries))) (sym (left_bytes form n offset bytes ends) ∙ walked.spelled)
+    differ form ends.entries walked.entries ends.valid walked.valid (omega (arith, short, is, magic_length form, length-append (magic form) (chain form None ends.entries))) (sym (left_bytes form n offset bytes ends) ∙ walked.spelled)
 
 -- An epoch in which a walk ended later is damaged there if all entries up to there were joined.
 pub read_left : EpochsDiffer → (root : Root) (files : Files) (rs : List Record) (epoch offset : ℕ) (old new : JoinedEntries) (seen : List Seen) → RootFits root → epoch ≤ 63 → 8 < offset → IsReadUpTo root files rs epoch old

@@ -16,9 +16,9 @@ use Rattle.arch_model.specs.Epochs.{epoch_bytes, entries_bytes, last_commit}
 use Rattle.mail_commits.specs.Entries.{entry_bytes, tree_of, commit_text, magic, commit_id}
 use Rattle.epoch_file.specs.Entries.{bytes_after}
 use Rattle.epoch_file.specs.Walking.{blob_front}
-use Rattle.epoch_file.proofs.Chains.{length-magic}
 use Rattle.root_change.specs.Texts.{Fronts}
 use Rattle.store_finding.specs.Kept.{in_file}
+use Rattle.store_finding.proofs.Magics.{magic_length}
 
 -- What holds of all items holds of one among them.
 pub one_of_all : (P : Entry → Type 0) (xs : List Entry) (e : Entry) (ys : List Entry) → AllByRecursion P (xs ++ e ∷ ys) → P e
@@ -99,7 +99,7 @@ epoch_text form xs e ys =
     let here = divided_before (bytes_after form parent (in_file e)) rest (blob_front e.text) e.text (entry_text form e.kind e.text e.moment parent) in
     let after = divided_after (entries_bytes form None xs) (bytes_after form parent (in_file e) ++ rest) (blob_front e.text) e.text here in
     let whole : Divided (magic form ++ all) (length (magic form) + (length (entries_bytes form None xs) + blob_front e.text)) e.text = divided_after (magic form) all (length (entries_bytes form None xs) + blob_front e.text) e.text after in
-    let offset : length (magic form) + (length (entries_bytes form None xs) + blob_front e.text) ≡ 8 + length (entries_bytes form None xs) + blob_front e.text = omega (arith, length-magic form) in
+    let offset : length (magic form) + (length (entries_bytes form None xs) + blob_front e.text) ≡ 8 + length (entries_bytes form None xs) + blob_front e.text = omega (arith, magic_length form) in
     subst (λ (n : ℕ). Divided (epoch_bytes form (xs ++ e ∷ ys)) n e.text) offset
     (subst (λ (b : List ℕ). Divided b (length (magic form) + (length (entries_bytes form None xs) + blob_front e.text)) e.text) (sym (epoch_split form xs e ys ∙ ap (λ (b : List ℕ). magic form ++ b) (entries_split form None xs e ys))) whole)
 

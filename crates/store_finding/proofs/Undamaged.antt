@@ -14,7 +14,6 @@ use Rattle.mail_commits.specs.Entries.{magic}
 use Rattle.arch_model.specs.Epochs.{epoch_bytes, entries_bytes, last_commit}
 use Rattle.number_map.specs.declared.line.Record.{Record}
 use Rattle.epoch_file.specs.Entries.{EntriesDiffer, EpochEntry, AreEpochEntries, bytes_after, commit_after, chain, last_of, EpochsDiffer}
-use Rattle.epoch_file.proofs.Chains.{length-magic}
 use Rattle.root_slots.specs.declared.root.Root.{Root}
 use Rattle.root_slots.specs.Valid.{RootFits}
 use Rattle.root_change.specs.Texts.{Fronts}
@@ -24,11 +23,12 @@ use Rattle.store_finding.specs.Kept.{in_file}
 use Rattle.store_finding.specs.Damage.{record_of, AreFirst, AreOpened, named_length, named_bytes, AreWhole, LacksFront, LacksNext, LacksLast}
 use Rattle.store_finding.specs.Openings.{OpenedUndamaged}
 use Rattle.arch_model.proofs.ValidArchives.{all_weaker}
+use Rattle.store_finding.proofs.Magics.{magic_length, take_magic, drop_magic}
 use Rattle.store_finding.proofs.UniqueRoots.{front_is_one}
 use Rattle.store_finding.proofs.UniqueEntries.{unnumbered, same_first}
 use Rattle.store_finding.proofs.Firsts.{all_back, all_front, first_front}
 use Rattle.store_finding.proofs.Joins.{only_here}
-use Rattle.store_finding.proofs.Opening.{chain_of, last_is, take_magic, drop_magic, entry_some, file_valid, none_apart}
+use Rattle.store_finding.proofs.Opening.{chain_of, last_is, entry_some, file_valid, none_apart}
 
 -- Epochs never fall, so entries are those before an epoch and then the others.
 rise_over : (number low : ℕ) (es : List Entry) → Rise number low es → AllByRecursion (λ (e : Entry). low ≤ e.epoch) es
@@ -142,22 +142,22 @@ module _ (root : Root) (files : Files) (rs : List Record) (fits : RootFits root)
       let size : length (chain root.config.form None (map in_file one.upto.back)) ≡ length (drop 8 (epoch_bytes root.config.form one.upto.back)) = ap length (tail_of root.config.form one.upto.back) in
       let same : map in_file one.upto.back ≡ map in_file two.upto.back =
       differ root.config.form (map in_file one.upto.back) (map in_file two.upto.back) (files_valid one.upto.back one.valid) (files_valid two.upto.back two.valid)
-      (omega (arith, short, long, size, length-magic root.config.form, length-append (magic root.config.form) (chain root.config.form None (map in_file one.upto.back)), length-drop 8 (epoch_bytes root.config.form one.upto.back)))
+      (omega (arith, short, long, size, magic_length root.config.form, length-append (magic root.config.form) (chain root.config.form None (map in_file one.upto.back)), length-drop 8 (epoch_bytes root.config.form one.upto.back)))
       (ap (λ (b : List ℕ). magic root.config.form ++ b) (tail_of root.config.form one.upto.back ∙ (ap (drop 8) bytes ∙ sym (tail_of root.config.form two.upto.back)))) in
       ap (map unnumbered) one.upto.is ∙ (map-append unnumbered one.upto.front one.upto.back
       ∙ ((λ i. fronts i ++ same_places epoch one.upto.back two.upto.back one.stand two.stand same i)
       ∙ sym (ap (map unnumbered) two.upto.is ∙ map-append unnumbered two.upto.front two.upto.back)))
 
   -- So the records of the map determine the entries.
-  pub whole_one : EpochsDiffer → (p q : List Record) (epoch : ℕ) (xs ys : List Entry) → epoch ≤ 64 → AreFirst rs p xs → AreFirst rs q ys → AreWhole root files epoch xs → AreWhole root files epoch ys → xs ≡ ys
-  whole_one differ p q epoch xs ys few first also whole part = same_first rs p q xs ys first also (same_whole differ epoch p q xs ys few first also whole part)
+  pub whole_one : EpochsDiffer → (p q : List Record) (epoch : ℕ) (xs ys : List Entry) → epoch ≤ 64 → AreFirst root.config.form rs p xs → AreFirst root.config.form rs q ys → AreWhole root files epoch xs → AreWhole root files epoch ys → xs ≡ ys
+  whole_one differ p q epoch xs ys few first also whole part = same_first root.config.form rs p q xs ys first also (same_whole differ epoch p q xs ys few first also whole part)
 
   -- No message is missing.
   none_missing : EpochsDiffer → (entries : List Entry) (epoch offset : ℕ) → AreOpened root files rs entries → LacksLast root files rs epoch offset → ⊥
   none_missing differ entries epoch offset opened lost =
       let same = whole_one differ [] (lost.next ∷ lost.after) 64 entries lost.before (omega arith) opened.first lost.first opened.whole lost.whole in
       let wrong : [] ≡ lost.next ∷ lost.after =
-      append_cancel_left (map record_of (delivered lost.before)) [] (lost.next ∷ lost.after) (ap (λ (l : List Entry). map record_of (delivered l) ++ []) (sym same) ∙ (sym opened.first.records ∙ lost.first.records)) in
+      append_cancel_left (map (record_of root.config.form) (delivered lost.before)) [] (lost.next ∷ lost.after) (ap (λ (l : List Entry). map (record_of root.config.form) (delivered l) ++ []) (sym same) ∙ (sym opened.first.records ∙ lost.first.records)) in
       cc
 
 -- The bytes that the root names of an epoch that is whole.
@@ -224,7 +224,7 @@ none_lost entry epochs root files rs entries epoch offset fits opened less lost 
     (map-append unnumbered last.upto.front (take count here) ∙ ((λ i. map unnumbered (before i) ++ places i) ∙ sym (map-append unnumbered lost.before lost.here))) in
     let total : length (epoch_bytes root.config.form here) ≡ length ((magic root.config.form ++ entries_bytes root.config.form None lost.here) ++ lost.rest) = ap length (sym named ∙ lost.spelled) in
     by here all.back (drop count here) refl (all_back (λ (e : Entry). e.epoch ≡ epoch) (take count here) (drop count here) stand) (prefix.rest_is ∙ (λ i. chain root.config.form (sym (last_is root.config.form None lost.here) i) (sym left i)))
-    (omega (arith, long, total, length-magic root.config.form, length-append (magic root.config.form ++ entries_bytes root.config.form None lost.here) lost.rest, length-append (magic root.config.form) (entries_bytes root.config.form None lost.here)))
+    (omega (arith, long, total, magic_length root.config.form, length-append (magic root.config.form ++ entries_bytes root.config.form None lost.here) lost.rest, length-append (magic root.config.form) (entries_bytes root.config.form None lost.here)))
     long (whole ∙ (λ i. same i ++ (drop count here ++ all.back)))
   where
     by : (here back more : List Entry) → drop (length lost.here) here ≡ more → AllByRecursion (λ (e : Entry). e.epoch ≡ epoch) more → lost.rest ≡ chain root.config.form (last_commit root.config.form None lost.here) (map in_file more)
