@@ -3,7 +3,7 @@ ghost use Rattle.root_slots.specs.Valid.{IsRoot};
 
 use crate::crashes::{Stopped, stop};
 use crate::roots::{ROOT, is_same, put, sample, slot_read, write};
-use arch_base::Numbers;
+use arch_base::{Form, Numbers};
 use disk_model::{Disk, DiskFault, FileKind, FileName, MemDisk};
 use root_slots::{Root, RootRefusal, Slot, begin, commit, read};
 use std::alloc::Global;
@@ -125,9 +125,11 @@ fn look_at_commit(
 }
 
 #[test]
-fn a_stop_leaves_the_old_root_or_the_new_one(rt: HostRuntime) -> Result<(), Fail> {
-    let old = sample(rt.alloc(), 1, 7)?;
-    let new = sample(rt.alloc(), 2, 8)?;
+fn a_stop_leaves_the_old_root_or_the_new_one_of_the_other_form(
+    rt: HostRuntime,
+) -> Result<(), Fail> {
+    let old = sample(rt.alloc(), Form::Sha1, 1, 7)?;
+    let new = sample(rt.alloc(), Form::Sha256, 2, 8)?;
     for passes in 0..9 {
         let stopped = stop_commit(rt.alloc(), &old, &new, passes)?;
         // The calls are a look at the length and three writes, with a sync after each write.

@@ -1,11 +1,14 @@
-//! Maps on a disk in memory: their bytes, what is read of them, and where they are damaged.
+//! Maps of both forms on a disk in memory: their bytes, what is read of them, and where they are damaged.
 use crate::file_names::M;
 use arch_base::{Form, Numbers, ObjectId};
-use disk_model::{Disk, DiskFault, FuseDisk, MemDisk, WalkRefusal};
+use disk_model::{Disk, DiskFault, FuseDisk, MemDisk, WalkRefusal, record_size};
 use number_map::{Record, Records, append, law_of_records, walk};
 use std::alloc::Global;
 use std::process::Abort;
 use std::test::Fail;
+
+/// The forms of ids.
+const FORMS: [Form; 2] = [Form::Sha1, Form::Sha256];
 
 /// Three records: of the first epoch, of no message, and of the last epoch.
 const LINES: [Record; 3] = [
@@ -31,6 +34,52 @@ const BYTES: &[u8] = b"\x00\x00\x00\x01\x00\x00\x00\x00abcdefghijklmnopqrst\
     \x00\x00\x00\x02\xff\xff\xff\xff\x00\x00\x00\x00\x00\x00\x00\x00\x00\x00\x00\x00\x00\x00\x00\x00\x00\x00\x00\x00\
     \x00\x00\x00\x03\x00\x00\x00\x3fABCDEFGHIJKLMNOPQRST";
 
+/// Three such records whose ids are SHA-256.
+const LONG_LINES: [Record; 3] = [
+    Record {
+        number: 1,
+        epoch: 0,
+        blob: ObjectId::Sha256(*b"abcdefghijklmnopqrstuvwxyz012345"),
+    },
+    Record {
+        number: 2,
+        epoch: 4_294_967_295,
+        blob: ObjectId::Sha256([0; 32]),
+    },
+    Record {
+        number: 3,
+        epoch: 63,
+        blob: ObjectId::Sha256(*b"ABCDEFGHIJKLMNOPQRSTUVWXYZ678901"),
+    },
+];
+
+/// Their bytes.
+const LONG_BYTES: &[u8] = b"\x00\x00\x00\x01\x00\x00\x00\x00abcdefghijklmnopqrstuvwxyz012345\
+    \x00\x00\x00\x02\xff\xff\xff\xff\x00\x00\x00\x00\x00\x00\x00\x00\x00\x00\x00\x00\x00\x00\x00\x00\
+    \x00\x00\x00\x00\x00\x00\x00\x00\x00\x00\x00\x00\x00\x00\x00\x00\
+    \x00\x00\x00\x03\x00\x00\x00\x3fABCDEFGHIJKLMNOPQRSTUVWXYZ678901";
+
+/// Returns the three records of a form.
+fn lines_of(form: Form) -> &'static [Record; 3] {
+    match form {
+        Form::Sha1 => &LINES,
+        Form::Sha256 => &LONG_LINES,
+    }
+}
+
+/// Returns their bytes.
+fn bytes_of(form: Form) -> &'static [u8] {
+    match form {
+        Form::Sha1 => BYTES,
+        Form::Sha256 => LONG_BYTES,
+    }
+}
+
+/// Returns the length of so many records, up to 10,000.
+fn length_of(form: Form, count: u32) -> u64 {
+    record_size(form) as u64 * u64::from(count.min(10_000))
+}
+
 /// Bytes that are put over those of the three records.
 struct Patch {
     /// Their offset.
@@ -40,7 +89,7 @@ struct Patch {
     damage: Option<u64>,
 }
 
-/// Patches of the three records.
+/// Patches of the three records whose ids are SHA-1.
 const PATCHES: [Patch; 15] = [
     Patch {
         at: 0,
@@ -119,6 +168,58 @@ const PATCHES: [Patch; 15] = [
     },
 ];
 
+/// Patches of the three records whose ids are SHA-256.
+const LONG_PATCHES: [Patch; 8] = [
+    Patch {
+        at: 0,
+        bytes: b"\x00\x00\x00\x02",
+        damage: Some(0),
+    },
+    Patch {
+        at: 40,
+        bytes: b"\x00\x00\x00\x01",
+        damage: Some(40),
+    },
+    Patch {
+        at: 80,
+        bytes: b"\x00\x00\x00\x04",
+        damage: Some(80),
+    },
+    Patch {
+        at: 84,
+        bytes: b"\x00\x00\x01\x00",
+        damage: Some(80),
+    },
+    Patch {
+        at: 48,
+        bytes: b"\x80",
+        damage: Some(40),
+    },
+    Patch {
+        at: 79,
+        bytes: b"\x01",
+        damage: Some(40),
+    },
+    Patch {
+        at: 8,
+        bytes: b"\x00\x00",
+        damage: None,
+    },
+    Patch {
+        at: 120,
+        bytes: b"\x00",
+        damage: None,
+    },
+];
+
+/// Returns the patches of the three records of a form.
+fn patches_of(form: Form) -> &'static [Patch] {
+    match form {
+        Form::Sha1 => &PATCHES,
+        Form::Sha256 => &LONG_PATCHES,
+    }
+}
+
 /// Puts a record where the map reaches that far, after one look at that.
 fn put<D: Disk>(disk: &mut D, at: u64, line: &Record) -> Result<(), DiskFault> {
     if at > disk.length(M)? || at > 1_000_000 {
@@ -127,12 +228,12 @@ fn put<D: Disk>(disk: &mut D, at: u64, line: &Record) -> Result<(), DiskFault> {
     append(disk, M, at, line)
 }
 
-/// Puts the three records onto a disk.
-fn put_three<D: Disk>(disk: &mut D) -> Result<(), DiskFault> {
-    let [first, second, third] = &LINES;
+/// Puts the three records of a form onto a disk.
+fn put_three<D: Disk>(disk: &mut D, form: Form) -> Result<(), DiskFault> {
+    let [first, second, third] = lines_of(form);
     put(disk, 0, first)?;
-    put(disk, 28, second)?;
-    put(disk, 56, third)
+    put(disk, length_of(form, 1), second)?;
+    put(disk, length_of(form, 2), third)
 }
 
 /// Writes into the map.
@@ -151,9 +252,14 @@ fn trim<D: Disk>(disk: &mut D, length: u64) -> Result<(), DiskFault> {
     disk.cut(M, length)
 }
 
-/// Returns where the map is damaged, or `None` if its records up to a number are read.
-fn damage<D: Disk>(alloc: Global, disk: &mut D, count: u32) -> Result<Option<u64>, WalkRefusal> {
-    match walk(alloc, disk, M, count, Form::Sha1) {
+/// Returns where the map of a form is damaged, or `None` if its records up to a number are read.
+fn damage<D: Disk>(
+    alloc: Global,
+    disk: &mut D,
+    form: Form,
+    count: u32,
+) -> Result<Option<u64>, WalkRefusal> {
+    match walk(alloc, disk, M, count, form) {
         Ok(_) => Ok(None),
         Err(WalkRefusal::Damaged { at }) => Ok(Some(at)),
         Err(refusal) => Err(refusal),
@@ -161,68 +267,97 @@ fn damage<D: Disk>(alloc: Global, disk: &mut D, count: u32) -> Result<Option<u64
 }
 
 /// Returns whether no record is read of a map that isn't there.
-fn has_no_record<D: Disk>(alloc: Global, disk: &mut D) -> bool {
-    let none = damage(alloc, disk, 0) == Ok(None);
-    let one = damage(alloc, disk, 1) == Ok(Some(0));
+fn has_no_record<D: Disk>(alloc: Global, disk: &mut D, form: Form) -> bool {
+    let none = damage(alloc, disk, form, 0) == Ok(None);
+    let one = damage(alloc, disk, form, 1) == Ok(Some(0));
     none && one
 }
 
-/// Returns whether the map has the bytes of the three records.
-fn has_bytes<D: Disk>(disk: &mut D) -> Result<bool, DiskFault> {
+/// Returns whether the map has the bytes of the three records of a form.
+fn has_bytes<D: Disk>(disk: &mut D, form: Form) -> Result<bool, DiskFault> {
     let length = disk.length(M)?;
-    let mut bytes = [7; 84];
+    let mut bytes = [7; 121];
     let count = disk.read(M, 0, &mut bytes)?;
-    Ok(length == 84 && count == 84 && bytes.as_slice() == BYTES)
+    Ok(length == length_of(form, 3) && &bytes[..count] == bytes_of(form))
 }
 
-/// Returns whether the three records are read, and copied.
-fn has_records<D: Disk>(alloc: Global, disk: &mut D) -> Result<bool, WalkRefusal> {
-    let lines: Records = walk(alloc, disk, M, 3, Form::Sha1)?;
+/// Returns whether the three records of a form are read, and copied.
+fn has_records<D: Disk>(alloc: Global, disk: &mut D, form: Form) -> Result<bool, WalkRefusal> {
+    let lines: Records = walk(alloc, disk, M, 3, form)?;
     let copied = lines.copy()?;
-    Ok(lines.as_slice() == LINES.as_slice() && copied.as_slice() == LINES.as_slice())
+    let wanted = lines_of(form).as_slice();
+    Ok(lines.as_slice() == wanted && copied.as_slice() == wanted)
 }
 
-/// Puts the three records onto a disk without files, and returns whether they are read.
-fn are_read<D: Disk>(alloc: Global, disk: &mut D) -> Result<bool, WalkRefusal> {
-    let none = has_no_record(alloc, disk);
-    put_three(disk)?;
-    let bytes = has_bytes(disk)?;
-    let records = has_records(alloc, disk)?;
-    let end = damage(alloc, disk, 4) == Ok(Some(84));
+/// Puts the three records of a form onto a disk without files, and returns whether they are read.
+fn are_read<D: Disk>(alloc: Global, disk: &mut D, form: Form) -> Result<bool, WalkRefusal> {
+    let none = has_no_record(alloc, disk, form);
+    put_three(disk, form)?;
+    let bytes = has_bytes(disk, form)?;
+    let records = has_records(alloc, disk, form)?;
+    let end = damage(alloc, disk, form, 4) == Ok(Some(length_of(form, 3)));
     Ok(none && bytes && records && end)
 }
 
 #[test]
 fn what_was_appended_is_read(rt: HostRuntime) -> Result<(), Fail> {
     law_of_records();
-    let mut disk = MemDisk::new(rt.alloc(), Numbers::new(rt.alloc()));
-    assert!(rt; are_read(rt.alloc(), &mut disk)?);
-    Ok(())
-}
-
-/// Returns where the three records are damaged when bytes are put over theirs.
-fn damage_of(alloc: Global, patch: &Patch) -> Result<Option<u64>, WalkRefusal> {
-    let mut disk = MemDisk::new(alloc, Numbers::new(alloc));
-    put_three(&mut disk)?;
-    write(&mut disk, patch.at, patch.bytes)?;
-    damage(alloc, &mut disk, 3)
-}
-
-#[test]
-fn damage_is_at_the_first_bad_record(rt: HostRuntime) -> Result<(), Fail> {
-    for patch in &PATCHES {
-        let damage = damage_of(rt.alloc(), patch);
-        assert_eq!(rt; damage, Ok(patch.damage), "offset {}", patch.at);
+    for form in FORMS {
+        let mut disk = MemDisk::new(rt.alloc(), Numbers::new(rt.alloc()));
+        assert!(rt; are_read(rt.alloc(), &mut disk, form)?, "{form:?}");
     }
     Ok(())
 }
 
-/// Returns where a map of so many bytes is damaged when three records are read of it.
-fn last_record(length: u64) -> u64 {
-    match length {
-        0..28 => 0,
-        28..56 => 28,
-        _ => 56,
+/// Returns where the three records of a form are damaged when they are read as those of the other one.
+fn damage_in_other(alloc: Global, form: Form) -> Result<Option<u64>, WalkRefusal> {
+    let mut disk = MemDisk::new(alloc, Numbers::new(alloc));
+    put_three(&mut disk, form)?;
+    match form {
+        Form::Sha1 => damage(alloc, &mut disk, Form::Sha256, 2),
+        Form::Sha256 => damage(alloc, &mut disk, Form::Sha1, 2),
+    }
+}
+
+#[test]
+fn a_map_of_the_other_form_is_damaged_at_its_second_record(rt: HostRuntime) -> Result<(), Fail> {
+    assert_eq!(rt; damage_in_other(rt.alloc(), Form::Sha1), Ok(Some(40)));
+    assert_eq!(rt; damage_in_other(rt.alloc(), Form::Sha256), Ok(Some(28)));
+    Ok(())
+}
+
+/// Returns where the three records of a form are damaged when bytes are put over theirs.
+fn damage_of(alloc: Global, form: Form, patch: &Patch) -> Result<Option<u64>, WalkRefusal> {
+    let mut disk = MemDisk::new(alloc, Numbers::new(alloc));
+    put_three(&mut disk, form)?;
+    write(&mut disk, patch.at, patch.bytes)?;
+    damage(alloc, &mut disk, form, 3)
+}
+
+/// Puts each patch of a form over its three records, and reads them.
+fn try_patches(rt: &impl Abort, alloc: Global, form: Form) {
+    for patch in patches_of(form) {
+        let damage = damage_of(alloc, form, patch);
+        assert_eq!(rt; damage, Ok(patch.damage), "{form:?}, offset {}", patch.at);
+    }
+}
+
+#[test]
+fn damage_is_at_the_first_bad_record(rt: HostRuntime) -> Result<(), Fail> {
+    for form in FORMS {
+        try_patches(&rt, rt.alloc(), form);
+    }
+    Ok(())
+}
+
+/// Returns where a map of so many bytes is damaged when three records of a form are read of it.
+fn last_record(form: Form, length: u64) -> u64 {
+    if length < length_of(form, 1) {
+        0
+    } else if length < length_of(form, 2) {
+        length_of(form, 1)
+    } else {
+        length_of(form, 2)
     }
 }
 
@@ -230,32 +365,43 @@ fn last_record(length: u64) -> u64 {
 fn is_damaged_at_last<D: Disk>(
     alloc: Global,
     disk: &mut D,
+    form: Form,
     length: u64,
 ) -> Result<bool, DiskFault> {
     trim(disk, length)?;
-    Ok(damage(alloc, disk, 3) == Ok(Some(last_record(length))))
+    Ok(damage(alloc, disk, form, 3) == Ok(Some(last_record(form, length))))
 }
 
 /// Cuts a map of three records to each length below its own, from the greatest on, and reads it.
-fn cut_and_read<D: Disk>(rt: &impl Abort, alloc: Global, disk: &mut D) -> Result<(), DiskFault> {
-    for cut in 0..84u64 {
-        let length = 83 - cut;
-        assert!(rt; is_damaged_at_last(alloc, disk, length)?, "length {length}");
+fn cut_and_read<D: Disk>(
+    rt: &impl Abort,
+    alloc: Global,
+    disk: &mut D,
+    form: Form,
+) -> Result<(), DiskFault> {
+    let end = length_of(form, 3);
+    for cut in 1..=end {
+        let length = end - cut;
+        let damaged = is_damaged_at_last(alloc, disk, form, length)?;
+        assert!(rt; damaged, "{form:?}, length {length}");
     }
     Ok(())
 }
 
 #[test]
 fn a_map_cut_short_is_damaged_at_its_last_record(rt: HostRuntime) -> Result<(), Fail> {
-    let mut disk = MemDisk::new(rt.alloc(), Numbers::new(rt.alloc()));
-    put_three(&mut disk)?;
-    cut_and_read(&rt, rt.alloc(), &mut disk)?;
+    for form in FORMS {
+        let mut disk = MemDisk::new(rt.alloc(), Numbers::new(rt.alloc()));
+        put_three(&mut disk, form)?;
+        cut_and_read(&rt, rt.alloc(), &mut disk, form)?;
+    }
     Ok(())
 }
 
-/// Puts so many records onto a disk.
-fn put_many<D: Disk>(disk: &mut D, count: u32) -> Result<(), DiskFault> {
-    let blob = ObjectId::Sha1(*b"abcdefghijklmnopqrst");
+/// Puts so many records of a form onto a disk.
+fn put_many<D: Disk>(disk: &mut D, form: Form, count: u32) -> Result<(), DiskFault> {
+    let [first, _, _] = lines_of(form);
+    let blob = first.blob;
     for before in 0..count {
         let number = before.saturating_add(1);
         let line = Record {
@@ -263,14 +409,19 @@ fn put_many<D: Disk>(disk: &mut D, count: u32) -> Result<(), DiskFault> {
             epoch: number % 64,
             blob,
         };
-        put(disk, 28 * u64::from(before), &line)?;
+        put(disk, length_of(form, before), &line)?;
     }
     Ok(())
 }
 
-/// Returns whether so many records are read, and the last of them is that of its number.
-fn has_many<D: Disk>(alloc: Global, disk: &mut D, count: u32) -> Result<bool, WalkRefusal> {
-    let lines = walk(alloc, disk, M, count, Form::Sha1)?;
+/// Returns whether so many records of a form are read, and the last of them is that of its number.
+fn has_many<D: Disk>(
+    alloc: Global,
+    disk: &mut D,
+    form: Form,
+    count: u32,
+) -> Result<bool, WalkRefusal> {
+    let lines = walk(alloc, disk, M, count, form)?;
     let Some(last) = lines.as_slice().last() else {
         return Ok(false);
     };
@@ -279,9 +430,9 @@ fn has_many<D: Disk>(alloc: Global, disk: &mut D, count: u32) -> Result<bool, Wa
 }
 
 /// Returns whether a number of the second piece that is another one is found, and not where it isn't read.
-fn is_found_in_second<D: Disk>(alloc: Global, disk: &mut D) -> bool {
-    let before = damage(alloc, disk, 2_340) == Ok(None);
-    let there = damage(alloc, disk, 4_681) == Ok(Some(65_520));
+fn is_found_in_second<D: Disk>(alloc: Global, disk: &mut D, form: Form) -> bool {
+    let before = damage(alloc, disk, form, 2_340) == Ok(None);
+    let there = damage(alloc, disk, form, 4_681) == Ok(Some(length_of(form, 2_340)));
     before && there
 }
 
@@ -289,34 +440,47 @@ fn is_found_in_second<D: Disk>(alloc: Global, disk: &mut D) -> bool {
 fn first_unread<D: Disk>(
     alloc: Global,
     disk: &mut D,
+    form: Form,
     counts: &[u32],
 ) -> Result<Option<u32>, WalkRefusal> {
     for count in counts {
-        if !has_many(alloc, disk, *count)? {
+        if !has_many(alloc, disk, form, *count)? {
             return Ok(Some(*count));
         }
     }
     Ok(None)
 }
 
-/// Reads a map of 4,681 records up to the ends of its pieces, and damages the second one.
-fn read_pieces<D: Disk>(rt: &impl Abort, alloc: Global, disk: &mut D) -> Result<(), WalkRefusal> {
-    let unread = first_unread(alloc, disk, &[2_339, 2_340, 2_341, 4_679, 4_680, 4_681])?;
+/// Reads a map of 4,681 records of a form up to the ends of its pieces, and damages the second one.
+fn read_pieces<D: Disk>(
+    rt: &impl Abort,
+    alloc: Global,
+    disk: &mut D,
+    form: Form,
+) -> Result<(), WalkRefusal> {
+    let unread = first_unread(
+        alloc,
+        disk,
+        form,
+        &[2_339, 2_340, 2_341, 4_679, 4_680, 4_681],
+    )?;
     assert_eq!(rt;
-        (unread, damage(alloc, disk, 4_682)),
-        (None, Ok(Some(131_068)))
+        (unread, damage(alloc, disk, form, 4_682)),
+        (None, Ok(Some(length_of(form, 4_681))))
     );
     // The first number of the second piece.
-    write(disk, 65_523, b"\x00")?;
-    assert!(rt; is_found_in_second(alloc, disk));
+    write(disk, length_of(form, 2_340) + 3, b"\x00")?;
+    assert!(rt; is_found_in_second(alloc, disk, form));
     Ok(())
 }
 
 #[test]
 fn a_map_of_many_pieces_is_read(rt: HostRuntime) -> Result<(), Fail> {
-    let mut disk = MemDisk::new(rt.alloc(), Numbers::new(rt.alloc()));
-    put_many(&mut disk, 4_681)?;
-    read_pieces(&rt, rt.alloc(), &mut disk)?;
+    for form in FORMS {
+        let mut disk = MemDisk::new(rt.alloc(), Numbers::new(rt.alloc()));
+        put_many(&mut disk, form, 4_681)?;
+        read_pieces(&rt, rt.alloc(), &mut disk, form)?;
+    }
     Ok(())
 }
 
@@ -324,13 +488,13 @@ fn a_map_of_many_pieces_is_read(rt: HostRuntime) -> Result<(), Fail> {
 fn is_read_in_seven_calls(alloc: Global, passes: u64) -> bool {
     let mut fuse = FuseDisk::new(MemDisk::new(alloc, Numbers::new(alloc)), passes);
     // A look at the length and a write for each record, and one read.
-    let put = put_three(&mut fuse).is_ok();
+    let put = put_three(&mut fuse, Form::Sha1).is_ok();
     let want = if passes >= 7 {
         Ok(None)
     } else {
         Err(WalkRefusal::DiskFault)
     };
-    put == (passes >= 6) && damage(alloc, &mut fuse, 3) == want
+    put == (passes >= 6) && damage(alloc, &mut fuse, Form::Sha1, 3) == want
 }
 
 #[test]

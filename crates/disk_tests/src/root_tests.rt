@@ -3,14 +3,14 @@ ghost use Rattle.root_slots.specs.Valid.{IsRoot};
 
 use crate::roots::{ROOT, body_of, is_same, put, root_of, sample, slot_read, write};
 use arch_base::{Config, Form, Name, Numbers};
-use disk_model::{Disk, DiskFault, FuseDisk, MemDisk};
+use disk_model::{Disk, DiskFault, FuseDisk, MemDisk, record_size};
 use root_slots::{Place, Root, RootRefusal, Slot, begin, law_of_spellings};
 use std::alloc::Global;
 use std::process::Abort;
 use std::test::Fail;
 
-/// Returns the sample of sequence 1 and largest number 7. Its fields differ from one another.
-fn made() -> Option<Root> {
+/// Returns the sample of a form, of sequence 1 and largest number 7. Its fields differ from one another.
+fn made(form: Form) -> Option<Root> {
     let name = Name::read(b"list-1.x")?;
     let mut epochs = [Place {
         generation: 0,
@@ -29,13 +29,13 @@ fn made() -> Option<Root> {
             max: 7,
             mirror: true,
             born: 1_706_781_700,
-            form: Form::Sha1,
+            form,
         },
         sequence: 1,
         next: 3,
         map: Place {
             generation: 1,
-            length: 56,
+            length: 2 * record_size(form) as u64,
         },
         epochs,
         cache: Place {
@@ -45,9 +45,9 @@ fn made() -> Option<Root> {
     })
 }
 
-/// Returns whether a body is read as the root that was made.
-fn is_read_as_made(root: &Root) -> bool {
-    match made() {
+/// Returns whether a body is read as the root of its form that was made.
+fn is_read_as_made(form: Form, root: &Root) -> bool {
+    match made(form) {
         Some(made) => is_same(root, &made),
         None => false,
     }
@@ -70,13 +70,20 @@ fn is_filled<D: Disk>(disk: &mut D, root: &Root, body: &[u8; 1536]) -> Result<bo
     Ok(count == 1536 && written == *body)
 }
 
+/// Returns whether the sample of a form is read of its bytes, and written as them.
+fn has_these_bytes(alloc: Global, form: Form) -> Result<bool, RootRefusal> {
+    let body = body_of(form, 1, 7);
+    let root = root_of(alloc, &body)?;
+    let filled = is_filled(&mut begun(alloc)?, &root, &body)?;
+    Ok(is_read_as_made(form, &root) && filled)
+}
+
 #[test]
-fn a_root_has_these_bytes(rt: HostRuntime) -> Result<(), Fail> {
+fn a_root_of_each_form_has_these_bytes(rt: HostRuntime) -> Result<(), Fail> {
     law_of_spellings();
-    let body = body_of(1, 7);
-    let root = root_of(rt.alloc(), &body)?;
-    assert!(rt; is_read_as_made(&root));
-    assert!(rt; is_filled(&mut begun(rt.alloc())?, &root, &body)?);
+    for form in [Form::Sha1, Form::Sha256] {
+        assert!(rt; has_these_bytes(rt.alloc(), form)?, "{form:?}");
+    }
     Ok(())
 }
 
@@ -89,8 +96,8 @@ struct Patch {
     stands: bool,
 }
 
-/// Patches of fields.
-const PATCHES: [Patch; 38] = [
+/// Patches of fields of the sample whose ids are SHA-1.
+const PATCHES: [Patch; 39] = [
     Patch {
         at: 0,
         bytes: b"\x00\x00\x00\x00\x00\x00\x00\x00",
@@ -104,6 +111,11 @@ const PATCHES: [Patch; 38] = [
     Patch {
         at: 8,
         bytes: b"\x02",
+        stands: false,
+    },
+    Patch {
+        at: 8,
+        bytes: b"\x03",
         stands: false,
     },
     Patch {
@@ -283,6 +295,53 @@ const PATCHES: [Patch; 38] = [
     },
 ];
 
+/// Patches of fields of the sample whose ids are SHA-256.
+const LONG_PATCHES: [Patch; 7] = [
+    Patch {
+        at: 8,
+        bytes: b"\x00",
+        stands: false,
+    },
+    Patch {
+        at: 8,
+        bytes: b"\x01",
+        stands: false,
+    },
+    Patch {
+        at: 8,
+        bytes: b"\x03",
+        stands: false,
+    },
+    Patch {
+        at: 114,
+        bytes: b"\x38",
+        stands: false,
+    },
+    Patch {
+        at: 114,
+        bytes: b"\x51",
+        stands: false,
+    },
+    Patch {
+        at: 95,
+        bytes: b"\x00\x00\x00\x02\x00\x00\x00\x00\x00\x00\x00\x01\x00\x00\x00\x00\x00\x00\x00\x28",
+        stands: true,
+    },
+    Patch {
+        at: 95,
+        bytes: b"\x80\x00\x00\x00\x00\x00\x00\x00\x00\x00\x00\x01\x00\x00\x00\x13\xff\xff\xff\xd8",
+        stands: true,
+    },
+];
+
+/// Returns the patches of the sample of a form.
+fn patches_of(form: Form) -> &'static [Patch] {
+    match form {
+        Form::Sha1 => &PATCHES,
+        Form::Sha256 => &LONG_PATCHES,
+    }
+}
+
 /// Writes a root to a slot and then bytes over its body.
 ///
 /// Returns whether the root is read before those bytes, and after them is read if `stands` is set
@@ -313,23 +372,31 @@ fn is_field<D: Disk>(
     Ok(before && slot_read(disk) == want)
 }
 
-/// Tries each field in a slot.
-fn try_fields(rt: &impl Abort, alloc: Global, root: &Root, slot: Slot) -> Result<(), DiskFault>
+/// Tries each field of a form in a slot.
+fn try_fields(
+    rt: &impl Abort,
+    alloc: Global,
+    form: Form,
+    root: &Root,
+    slot: Slot,
+) -> Result<(), DiskFault>
     requires { IsRoot root.now }
 {
     let mut disk = begun(alloc)?;
-    for patch in &PATCHES {
+    for patch in patches_of(form) {
         let good = is_field(&mut disk, root, slot, patch)?;
-        assert!(rt; good, "{slot:?}, offset {}", patch.at);
+        assert!(rt; good, "{form:?}, {slot:?}, offset {}", patch.at);
     }
     Ok(())
 }
 
 #[test]
 fn each_field_out_of_its_range_is_damage(rt: HostRuntime) -> Result<(), Fail> {
-    let root = sample(rt.alloc(), 1, 7)?;
-    for slot in [Slot::First, Slot::Second] {
-        try_fields(&rt, rt.alloc(), &root, slot)?;
+    for form in [Form::Sha1, Form::Sha256] {
+        let root = sample(rt.alloc(), form, 1, 7)?;
+        for slot in [Slot::First, Slot::Second] {
+            try_fields(&rt, rt.alloc(), form, &root, slot)?;
+        }
     }
     Ok(())
 }
@@ -397,19 +464,19 @@ const PAIRS: [Pair; 9] = [
     },
 ];
 
-/// Writes two roots of these sequences to the slots and sets the gates, and returns whether the
+/// Writes two roots of these sequences, one of each form, to the slots and sets the gates, and returns whether the
 /// wanted slot is read.
 fn is_newest<D: Disk>(alloc: Global, disk: &mut D, pair: &Pair) -> Result<bool, RootRefusal> {
     put(
         disk,
         Slot::First,
-        &sample(alloc, pair.sequences[0], 7)?,
+        &sample(alloc, Form::Sha1, pair.sequences[0], 7)?,
         true,
     )?;
     put(
         disk,
         Slot::Second,
-        &sample(alloc, pair.sequences[1], 8)?,
+        &sample(alloc, Form::Sha256, pair.sequences[1], 8)?,
         false,
     )?;
     write(disk, 0, &pair.gates)?;

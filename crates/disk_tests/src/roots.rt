@@ -1,8 +1,8 @@
-//! A root and its bytes, worked out by hand, and the root file that tests write them to.
+//! A root of each form and its bytes, worked out by hand, and the root file that tests write them to.
 ghost use Rattle.std.specs.Prelude.{IfOk};
 ghost use Rattle.root_slots.specs.Valid.{IsRoot};
 
-use arch_base::Numbers;
+use arch_base::{Form, Numbers};
 use disk_model::{Disk, DiskFault, FileKind, FileName, MemDisk};
 use root_slots::{Root, RootRefusal, Slot, begin, fill, raise, read, shut};
 use std::alloc::Global;
@@ -14,11 +14,10 @@ pub const ROOT: FileName = FileName {
     generation: 0,
 };
 
-/// The fields of the sample of sequence 1 and largest number 7: their offsets in the body and their
-/// bytes.
-const LAYOUT: [(usize, &[u8]); 14] = [
+/// The fields of the sample of sequence 1 and largest number 7 that don't go by its form: their offsets
+/// in the body and their bytes.
+const LAYOUT: [(usize, &[u8]); 12] = [
     (0, b"\x00\x00\x00\x00\x00\x00\x00\x01"),
-    (8, b"\x01"),
     (9, b"\x01"),
     (10, b"\x08list-1.x"),
     (75, b"\x00\x00\x00\x01\x02\x03\x04\x05"),
@@ -26,10 +25,6 @@ const LAYOUT: [(usize, &[u8]); 14] = [
     (87, b"\x00\x00\x00\x07"),
     (91, b"\x65\xbb\x6c\x04"),
     (95, b"\x00\x00\x00\x03"),
-    (
-        99,
-        b"\x00\x00\x00\x00\x00\x00\x00\x01\x00\x00\x00\x00\x00\x00\x00\x38",
-    ),
     (
         115,
         b"\x00\x00\x00\x00\x00\x00\x00\x01\x00\x00\x00\x00\x00\x00\x12\x34",
@@ -48,10 +43,36 @@ const LAYOUT: [(usize, &[u8]); 14] = [
     ),
 ];
 
-/// Returns the body of the sample of a sequence and a largest number.
-pub fn body_of(sequence: u64, max: u32) -> [u8; 1536] {
+/// The format and the map of the sample whose ids are SHA-1: two records of 28 bytes.
+const SHORT: [(usize, &[u8]); 2] = [
+    (8, b"\x01"),
+    (
+        99,
+        b"\x00\x00\x00\x00\x00\x00\x00\x01\x00\x00\x00\x00\x00\x00\x00\x38",
+    ),
+];
+
+/// The format and the map of the sample whose ids are SHA-256: two records of 40 bytes.
+const LONG: [(usize, &[u8]); 2] = [
+    (8, b"\x02"),
+    (
+        99,
+        b"\x00\x00\x00\x00\x00\x00\x00\x01\x00\x00\x00\x00\x00\x00\x00\x50",
+    ),
+];
+
+/// Returns the fields of the sample that go by its form.
+fn fields_of(form: Form) -> &'static [(usize, &'static [u8]); 2] {
+    match form {
+        Form::Sha1 => &SHORT,
+        Form::Sha256 => &LONG,
+    }
+}
+
+/// Returns the body of the sample of a form, a sequence and a largest number.
+pub fn body_of(form: Form, sequence: u64, max: u32) -> [u8; 1536] {
     let mut body = [0; 1536];
-    for (at, field) in &LAYOUT {
+    for (at, field) in LAYOUT.iter().chain(fields_of(form)) {
         put_field(&mut body, *at, field);
     }
     body[..8].copy_from_slice(&sequence.to_be_bytes());
@@ -80,11 +101,11 @@ pub fn root_of(alloc: Global, body: &[u8; 1536]) -> Result<Root, RootRefusal>
     }
 }
 
-/// Returns the root of the sample of a sequence and a largest number.
-pub fn sample(alloc: Global, sequence: u64, max: u32) -> Result<Root, RootRefusal>
+/// Returns the root of the sample of a form, a sequence and a largest number.
+pub fn sample(alloc: Global, form: Form, sequence: u64, max: u32) -> Result<Root, RootRefusal>
     ensures { IfOk result (λ root. IsRoot root) }
 {
-    root_of(alloc, &body_of(sequence, max))
+    root_of(alloc, &body_of(form, sequence, max))
 }
 
 /// Returns whether two roots are the same.
@@ -92,9 +113,16 @@ pub fn is_same(one: &Root, other: &Root) -> bool {
     let names = one.config.name.as_slice() == other.config.name.as_slice();
     let limits = one.config.limit == other.config.limit && one.config.slice == other.config.slice;
     let settings = one.config.max == other.config.max && one.config.mirror == other.config.mirror;
+    let forms = one.config.form == other.config.form;
     let numbers = one.sequence == other.sequence && one.next == other.next;
     let places = one.map == other.map && one.cache == other.cache && one.epochs == other.epochs;
-    names && limits && settings && one.config.born == other.config.born && numbers && places
+    names
+        && limits
+        && settings
+        && forms
+        && one.config.born == other.config.born
+        && numbers
+        && places
 }
 
 /// Writes bytes to the root file.
