@@ -6,6 +6,7 @@ use Rattle.std.proofs.Common.{ap, subst, arith}
 use Rattle.std.proofs.lemmas.Bool.{false_from_ne_true}
 use Rattle.std.proofs.lemmas.Slice.Eq.{bytes_eq-Decides}
 use Rattle.mail_reader.specs.Ids.{own_id}
+use Rattle.arch_base.specs.declared.ids.Form.{Form}
 use Rattle.arch_model.specs.Archives.{Entry, Archive, is_message, is_ended, is_id, live, owner, IsFree}
 use Rattle.store_finding.specs.declared.entries.StoredEntry.{StoredEntry}
 use Rattle.mail_reader.specs.StorageTexts.{IsStorageText}
@@ -24,10 +25,10 @@ step : (t : Bool) (e : Entry) (es : List Entry) (id : List ℕ) → is_id id (ow
 step true e es id other more = rw other more
 step false e es id other more = more
 
-none_owns : (before es : List Entry) (id : List ℕ) → AllByRecursion (λ (s : StoredEntry). Some id ≢ Some s.seen.id) (stored_after before es) → owner (live es) id ≡ None
-none_owns before [] id all = refl
-none_owns before (e ∷ es) id all =
-    step (is_message e.kind && not (is_ended es e.number)) e (live es) id (not_own id (own_id e.text) all.0) (none_owns (before ++ e ∷ []) es id all.1)
+none_owns : (form : Form) (before es : List Entry) (id : List ℕ) → AllByRecursion (λ (s : StoredEntry). Some id ≢ Some s.seen.id) (stored_after form before es) → owner (live es) id ≡ None
+none_owns form before [] id all = refl
+none_owns form before (e ∷ es) id all =
+    step (is_message e.kind && not (is_ended es e.number)) e (live es) id (not_own id (own_id e.text) all.0) (none_owns form (before ++ e ∷ []) es id all.1)
 
 found : (o : Option (List ℕ)) → IsSome o → (id : List ℕ) × (o ≡ Some id)
 found None some = absurd (let no : false ≡ true = some in cc)
@@ -37,7 +38,7 @@ pub free_of : (v : StoreState) (text : List ℕ) → IsSome (own_id text) → Ap
 free_of v text some apart a keeps =
     let own = found (own_id text) some in
     let all = subst (λ (es : List StoredEntry). AllByRecursion (λ (s : StoredEntry). own_id text ≢ Some s.seen.id) es) keeps.kept apart in
-    (own.0, own.1, none_owns [] a.entries own.0 (subst (λ (o : Option (List ℕ)). AllByRecursion (λ (s : StoredEntry). o ≢ Some s.seen.id) (stored_after [] a.entries)) own.1 all))
+    (own.0, own.1, none_owns a.config.form [] a.entries own.0 (subst (λ (o : Option (List ℕ)). AllByRecursion (λ (s : StoredEntry). o ≢ Some s.seen.id) (stored_after a.config.form [] a.entries)) own.1 all))
 
 -- A storage text whose own id no entry has is accepted.
 pub accepted : (v : StoreState) (text : List ℕ) → v.root.config.mirror ≡ false → v.root.next ≤ v.root.config.max → IsStorageText text → Apart text v.entries → Accepts v text

@@ -371,7 +371,7 @@ static OWN: [Case; 7] = [
 /// No file can show this, since no two texts of one blob id are known.
 fn a_blob_id_has_one_text()
     ensures { (old new : JoinedEntries) (epoch : ℕ) (seen : Seen)
-        → JoinsOne old epoch seen false (Ok new) → OfJoined old (λ entries. ⊥) }
+        → JoinsOne old epoch seen false (Ok new) → OfJoined old (λ of entries. ⊥) }
 {}
 
 #[test]

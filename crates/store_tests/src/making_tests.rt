@@ -1,6 +1,6 @@
 //! Stores on disks in memory: what is made, what is answered, and what is read of them.
 ghost use Rattle.std.specs.Prelude.{◌≢◌, ◌≤◌, Some, IfOk, IsTrue, OnOk};
-ghost use Rattle.arch_base.specs.declared.ids.Form.TheVariants as form;
+ghost use Rattle.arch_base.specs.Ids.{form_of};
 ghost use Rattle.disk_model.specs.Disk.{WhereTold};
 ghost use Rattle.git_objects.specs.Objects.{blob_id_of};
 ghost use Rattle.mail_reader.specs.Ids.{own_id as own_id_in};
@@ -78,7 +78,8 @@ fn accepts(store: &Store, text: &[u8]) -> bool
 /// Returns whether a text has another own id and another blob id than an entry.
 fn is_apart(one: &StoredEntry, text: &[u8]) -> bool
     ensures id { IsTrue result → own_id_in text.now ≢ Some one.now.seen.id }
-    ensures blob { IsTrue result → blob_id_of form.Sha1 text.now ≢ one.now.seen.blob }
+    ensures blob { IsTrue result
+        → blob_id_of (form_of one.now.seen.blob) text.now ≢ one.now.seen.blob }
 {
     let Some(id) = own_id(text) else {
         return false;
@@ -86,7 +87,7 @@ fn is_apart(one: &StoredEntry, text: &[u8]) -> bool
     if id == one.seen.id.as_slice() {
         return false;
     }
-    if blob_id(text, Form::Sha1) == one.seen.blob {
+    if blob_id(text, one.seen.blob.form()) == one.seen.blob {
         return false;
     }
     true
@@ -105,7 +106,8 @@ pub(crate) fn put<D: Disk>(
     if !accepts(store, text) {
         return Err(StoreRefusal::Damaged { file: ROOT, at: 0 });
     }
-    store.deliver_entry(alloc, disk, text, &text_ids(text, Form::Sha1), MOMENT)
+    let form = store.config().form;
+    store.deliver_entry(alloc, disk, text, &text_ids(text, form), MOMENT)
 }
 
 /// Makes an archive.

@@ -1,6 +1,6 @@
 //! Removals on disks in memory, and what an opening makes of deletions.
 ghost use Rattle.std.specs.Prelude.{◌≡◌, ◌≤◌, Some, IsTrue, OnOk};
-ghost use Rattle.arch_base.specs.declared.ids.Form.TheVariants as form;
+ghost use Rattle.arch_base.specs.Ids.{form_of};
 ghost use Rattle.disk_model.specs.Disk.{WhereTold};
 ghost use Rattle.git_objects.specs.Objects.{blob_id_of};
 ghost use Rattle.git_objects.specs.declared.entry_kind.EntryKind.TheVariants.{Message};
@@ -31,7 +31,8 @@ fn is_message(one: &StoredEntry, number: u32, text: &[u8]) -> bool
     ensures kind { IsTrue result → one.now.seen.kind ≡ Message }
     ensures number { IsTrue result → one.now.number ≡ number }
     ensures id { IsTrue result → own_id_in text.now ≡ Some one.now.seen.id }
-    ensures blob { IsTrue result → blob_id_of form.Sha1 text.now ≡ one.now.seen.blob }
+    ensures blob { IsTrue result
+        → blob_id_of (form_of one.now.seen.blob) text.now ≡ one.now.seen.blob }
 {
     let EntryKind::Message = one.seen.kind else {
         return false;
@@ -40,7 +41,7 @@ fn is_message(one: &StoredEntry, number: u32, text: &[u8]) -> bool
         return false;
     };
     id == one.seen.id.as_slice()
-        && blob_id(text, Form::Sha1) == one.seen.blob
+        && blob_id(text, one.seen.blob.form()) == one.seen.blob
         && one.number == number
 }
 
@@ -81,7 +82,8 @@ pub(crate) fn remove_first<D: Disk>(
     if !may_end(store, 1, FIRST) {
         return Err(StoreRefusal::Damaged { file: ROOT, at: 3 });
     }
-    store.remove_entry(alloc, disk, 1, FIRST, &text_ids(FIRST, Form::Sha1), LATER)
+    let form = store.config().form;
+    store.remove_entry(alloc, disk, 1, FIRST, &text_ids(FIRST, form), LATER)
 }
 
 /// Makes an archive, appends the first message to it, and removes it.
