@@ -101,7 +101,7 @@ const ENTRY_DAMAGED: OpenRefusal = OpenRefusal::Damaged {
 };
 
 /// Damage of each file of an archive of one message.
-static OVERWRITES: [Overwrite; 9] = [
+static OVERWRITES: [Overwrite; 11] = [
     // Both slots are shut.
     Overwrite {
         file: ROOT,
@@ -114,6 +114,13 @@ static OVERWRITES: [Overwrite; 9] = [
         file: ROOT,
         at: 2570,
         bytes: b"\0",
+        refusal: ROOT_DAMAGED,
+    },
+    // The second slot has the format of SHA-256 objects, whose map would have 40 bytes.
+    Overwrite {
+        file: ROOT,
+        at: 2568,
+        bytes: b"\x02",
         refusal: ROOT_DAMAGED,
     },
     // The file is longer than a root file.
@@ -149,13 +156,21 @@ static OVERWRITES: [Overwrite; 9] = [
         bytes: b"\0\0",
         refusal: ENTRY_DAMAGED,
     },
-    // The epoch's first byte is another one, and the last one of the text.
+    // The epoch's first byte is another one.
     Overwrite {
         file: FIRST_EPOCH,
         at: 0,
         bytes: b"p",
         refusal: MAGIC_DAMAGED,
     },
+    // The epoch begins as one of SHA-256 objects.
+    Overwrite {
+        file: FIRST_EPOCH,
+        at: 6,
+        bytes: b"2",
+        refusal: MAGIC_DAMAGED,
+    },
+    // The text's last byte is another one.
     Overwrite {
         file: FIRST_EPOCH,
         at: 119,

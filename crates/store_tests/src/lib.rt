@@ -8,6 +8,8 @@ mod epoch_reading_tests;
 #[cfg(test)]
 mod fault_tests;
 #[cfg(test)]
+mod form_tests;
+#[cfg(test)]
 mod joining_tests;
 #[cfg(test)]
 mod making_tests;

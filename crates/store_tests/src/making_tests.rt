@@ -1,12 +1,13 @@
 //! Stores on disks in memory: what is made, what is answered, and what is read of them.
 ghost use Rattle.std.specs.Prelude.{◌≢◌, ◌≤◌, Some, IfOk, IsTrue, OnOk};
+ghost use Rattle.arch_base.specs.Configs.{IsConfig};
 ghost use Rattle.arch_base.specs.Ids.{form_of};
 ghost use Rattle.disk_model.specs.Disk.{WhereTold};
 ghost use Rattle.git_objects.specs.Objects.{blob_id_of};
 ghost use Rattle.mail_reader.specs.Ids.{own_id as own_id_in};
 ghost use Rattle.epoch_store.specs.Commands.{Accepts, StoreHasSizes};
 
-use arch_base::{Bytes, Form, NoMemory, id_of_hex};
+use arch_base::{Bytes, Config, Form, NoMemory, id_of_hex};
 use arch_model::TextRefusal;
 use archive_fixtures::{is_epoch_of, two_in_memory};
 use disk_model::{Disk, DiskFault, FileKind, FileName, FuseDisk, MemDisk};
@@ -116,10 +117,22 @@ pub(crate) fn make<D: Disk>(alloc: Global, disk: &mut D, limit: u64) -> Result<S
     requires high { limit ≤ 1099511627776 }
     ensures sizes { IfOk result (λ store. WhereTold (StoreHasSizes store) (D.content disk.new)) }
 {
-    let Some(config) = settings(limit, 10, false) else {
-        return Err(StoreRefusal::Damaged { file: ROOT, at: 1 });
-    };
-    match Store::init(alloc, disk, &config) {
+    match settings(limit, 10, false) {
+        Some(config) => make_by(alloc, disk, &config),
+        None => Err(StoreRefusal::Damaged { file: ROOT, at: 1 }),
+    }
+}
+
+/// Makes an archive of these settings.
+pub(crate) fn make_by<D: Disk>(
+    alloc: Global,
+    disk: &mut D,
+    config: &Config,
+) -> Result<Store, StoreRefusal>
+    requires config { IsConfig config.now }
+    ensures sizes { IfOk result (λ store. WhereTold (StoreHasSizes store) (D.content disk.new)) }
+{
+    match Store::init(alloc, disk, config) {
         Ok(store) => Ok(store),
         Err(InitRefusal::DiskFault) => Err(StoreRefusal::DiskFault),
         Err(InitRefusal::NoMemory) => Err(StoreRefusal::NoMemory),
@@ -140,13 +153,13 @@ pub(crate) fn fill<D: Disk>(alloc: Global, disk: &mut D, limit: u64) -> Result<S
 
 /// A file, and its length in bytes.
 #[derive(Drop)]
-struct Length {
-    file: FileName,
-    length: u64,
+pub(crate) struct Length {
+    pub(crate) file: FileName,
+    pub(crate) length: u64,
 }
 
 /// Returns whether files have these lengths.
-fn have_lengths<D: Disk>(disk: &mut D, wanted: &[Length]) -> Result<bool, DiskFault> {
+pub(crate) fn have_lengths<D: Disk>(disk: &mut D, wanted: &[Length]) -> Result<bool, DiskFault> {
     for Length { file, length } in wanted {
         if disk.length(*file)? != *length {
             return Ok(false);
@@ -308,7 +321,7 @@ fn the_file_of_an_epoch_has_the_bytes_of_the_epoch(rt: HostRuntime) -> Result<()
 }
 
 /// Returns the text of an entry, after another byte.
-fn text_of<D: Disk>(
+pub(crate) fn text_of<D: Disk>(
     alloc: Global,
     disk: &mut D,
     store: &Store,
