@@ -36,7 +36,7 @@ use Rattle.store_planning.specs.Planning.{AreAnew, length_after, length_by}
 use Rattle.store_finding.specs.Kept.{InEpochs}
 use Rattle.epoch_store.specs.Commands.{place_of}
 use Rattle.store_finding.proofs.Extents.{all_more, lie_more}
-use Rattle.store_planning.proofs.Planned.{magic_long}
+use Rattle.store_finding.proofs.Magics.{magic_length}
 use Rattle.store_planning.proofs.PlannedExtents.{anew_long, none_planned, anew_planned}
 
 -- Entries lie in files that are longer.
@@ -81,7 +81,7 @@ new_lies start entry seen at front blob_is at_is front_is seen_at_is text_is siz
   by true is =
       let none : start ≡ 0 = grind (arith, nat_tests, is) in
       let at_8 : at ≡ 8 = at_is ∙ ap (λ (b : Bool). if b then 8 else start) is in
-      let eight : length (front_at entry.form start) ≡ 8 = ap (λ (b : Bool). length (if b then magic entry.form else [])) is ∙ magic_long entry.form in
+      let eight : length (front_at entry.form start) ≡ 8 = ap (λ (b : Bool). length (if b then magic entry.form else [])) is ∙ magic_length entry.form in
       let size = length-entry entry.form entry.parent (entry_of entry) in
       record { at = omega (arith, none); text = omega (arith, seen_at_is, text_is); ends = omega (arith, more, eight, size, none, at_8, text_is, front_is, size_is, tree) }
   by false is =

@@ -15,13 +15,13 @@ use Rattle.store_finding.specs.Recovery.{bytes_in}
 use Rattle.store_finding.specs.Reading.{StandsAt}
 use Rattle.store_finding.specs.Kept.{StoreState, IsStoreWith}
 use Rattle.store_finding.proofs.FrontParts.{none_above, disk_fronts}
-use Rattle.store_planning.proofs.Planned.{magic_long}
+use Rattle.store_finding.proofs.Magics.{magic_length}
 
 -- An epoch without bytes has no entry.
 empty : (form : Form) (es : List Entry) → length (epoch_bytes form es) ≡ 0 → es ≡ []
 empty form [] none = refl
 empty form (e ∷ es) none =
-    let eight = magic_long form in
+    let eight = magic_length form in
     let parts = length-append (magic form) (entries_bytes form None (e ∷ es)) in
     absurd (omega (arith, eight, parts, none))
 

@@ -10,7 +10,6 @@ use Rattle.std.proofs.lemmas.List.Elements.{filter-append}
 use Rattle.std.proofs.lemmas.Option.{same_Some}
 use Rattle.arch_base.specs.declared.ids.ObjectId.{ObjectId}
 use Rattle.arch_base.specs.declared.ids.Form.{Form}
-use Rattle.arch_base.specs.declared.ids.Form.TheVariants.{Sha1, Sha256}
 use Rattle.disk_model.specs.declared.name.FileKind.{FileKind}
 use Rattle.disk_model.specs.declared.name.FileKind.TheVariants as kind
 use Rattle.disk_model.specs.declared.name.FileName.{FileName}
@@ -42,6 +41,7 @@ use Rattle.store_planning.specs.Planning.{ClosesAs, IsCurrent, IsPlannedUpTo, Op
 use Rattle.store_finding.specs.Recovery.{bytes_in, parts_of}
 use Rattle.store_finding.specs.Kept.{StoreState, IsDiskWith, in_file, stored_after, stored_at}
 use Rattle.store_finding.proofs.Growing.{in_epoch-here, stored_more}
+use Rattle.store_finding.proofs.Magics.{magic_length}
 use Rattle.store_finding.proofs.TextBytes.{in_epoch_split, one_of_all}
 
 -- An epoch that no entry is in.
@@ -154,18 +154,13 @@ whole_is : (form : Form) (xs : List Entry) (e : Entry) (ys : List Entry) → epo
 whole_is form [] e ys = ap (λ (b : List ℕ). magic form ++ b) (chain_is form None (e ∷ ys))
 whole_is form (x ∷ xs) e ys = ap (λ (b : List ℕ). magic form ++ b) (chain_is form None ((x ∷ xs) ++ e ∷ ys))
 
--- A magic has eight bytes.
-pub magic_long : (form : Form) → length (magic form) ≡ 8
-magic_long Sha1 = refl
-magic_long Sha256 = refl
-
 -- What is kept of an entry is what is recorded of it in its file.
 pub seen_is : (form : Form) (es : List Entry) (e : Entry) → (stored_at form es e).seen ≡ seen_after form (in_files (in_epoch es e.epoch)) (in_file e)
 seen_is form es e = λ i. seen_at form (at i) (commit_is form None (in_epoch es e.epoch) i) (in_file e) where
   at : 8 + length (entries_bytes form None (in_epoch es e.epoch)) ≡ length (epoch_of form (in_files (in_epoch es e.epoch)))
   at =
       ap (λ (b : List ℕ). 8 + length b) (chain_is form None (in_epoch es e.epoch))
-      ∙ (ap (λ (n : ℕ). n + length (chain form None (in_files (in_epoch es e.epoch)))) (sym (magic_long form)) ∙ sym (length-append (magic form) (chain form None (in_files (in_epoch es e.epoch)))))
+      ∙ (ap (λ (n : ℕ). n + length (chain form None (in_files (in_epoch es e.epoch)))) (sym (magic_length form)) ∙ sym (length-append (magic form) (chain form None (in_files (in_epoch es e.epoch)))))
 
 -- The numbers of messages with a text, with one more entry.
 gone_step : (t : Bool) (n : ℕ) (ns more : List ℕ) → (if t then n ∷ (ns ++ more) else (ns ++ more)) ≡ (if t then n ∷ ns else ns) ++ more
@@ -322,7 +317,7 @@ module _ (k : Content) (v : StoreState) (cache : List ℕ) (a : Archive) (own : 
       let name = epoch_file_of v.root e.epoch in
       let generation = (get_or v.root.epochs e.epoch no_place).generation in
       let low = entry.epoch in
-      let eight = magic_long a.config.form in
+      let eight = magic_length a.config.form in
       let size = ap length bytes_are in
       let parts = length-append (magic a.config.form) (chain a.config.form None (in_files (in_epoch es e.epoch ++ e ∷ in_epoch rest e.epoch))) in
       let long = own.keeps.names.epochs e.epoch (omega (arith, low)) in
