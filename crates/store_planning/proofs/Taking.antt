@@ -1,5 +1,5 @@
 -- What a planner holds once it has taken an entry.
-use Rattle.std.specs.Prelude.{◌≡◌, ◌≤◌, ℕ, Bool, true, false, List, [], ◌∷◌, ◌++◌, slice_get, Option, Some, None, Ok, Err, refl}
+use Rattle.std.specs.Prelude.{◌≡◌, ◌≢◌, ◌≤◌, ℕ, Bool, true, false, List, [], ◌∷◌, ◌++◌, slice_get, Option, Some, None, Ok, Err, refl}
 use Rattle.std.specs.List.{AllByRecursion}
 use Rattle.std.specs.Str.{bytes_eq}
 use Rattle.std.proofs.Common.{◌∙◌, sym, ap, subst, inl, inr, arith}
@@ -21,7 +21,7 @@ use Rattle.epoch_file.specs.declared.entry.Seen.{Seen}
 use Rattle.store_finding.specs.declared.entries.StoredEntry.{StoredEntry}
 use Rattle.store_planning.specs.DamagedTexts.{DamageBy, IsDamageOf}
 use Rattle.store_finding.specs.Files.{epoch_file_of}
-use Rattle.store_planning.specs.Planning.{ArePlansIn, ClosesAs, GivesNext, IsFileIn, IsNoDamage, IsPlanIn, IsPlannedUpTo, KeepsBut, PlansEntry, LeavesOut, OpensPlan, OpensBy, Planning, RefusesPlanned, PlansNext, gone_with, in_files, kept_anew, refusal_in, with_entries, without_current}
+use Rattle.store_planning.specs.Planning.{ArePlansIn, ClosesAs, ClosesEpoch, GivesNext, IsFileIn, IsNoDamage, IsPlanIn, IsPlannedUpTo, KeepsBut, PlansEntry, LeavesOut, OpensPlan, OpensBy, Planning, RefusesPlanned, PlansNext, epoch_start, gone_with, in_files, kept_anew, refusal_in, with_entries, without_current}
 use Rattle.store_planning.specs.Dropping.{KeptOf}
 use Rattle.store_finding.specs.Kept.{in_file, stored_at}
 use Rattle.store_planning.proofs.Planned.{each_plan, has_next, opened, seen_is, up_kept, up_left}
@@ -103,6 +103,12 @@ form_by old file (Some c) mid plan (inr next) = closed_form (without_current old
 
 pub opened_form : (old : Planning) (file : FileName) (mid : Planning) (plan : Planned) → OpensPlan old file mid plan → mid.form ≡ old.form
 opened_form old file mid plan opens = form_by old file old.current mid plan opens
+
+-- The plan of another file is a new one, once the current one is closed.
+pub opened_other : (inside now mid : Planning) (file : FileName) (c plan : Planned) → inside ≡ now → inside.current ≡ Some c → c.file ≢ file → ClosesEpoch (without_current inside) c mid → plan ≡ epoch_start mid.form file → OpensPlan now file mid plan
+opened_other inside now mid file c plan same is apart closes start =
+    let start_is : plan ≡ epoch_start inside.form file = start ∙ ap (λ (g : Form). epoch_start g file) (closed_form (without_current inside) closes.0 mid closes.3) in
+    subst (λ (p : Planning). OpensPlan p file mid plan) same (subst (λ (o : Option Planned). OpensBy inside file o mid plan) (sym is) (inr (apart, start_is, closes)))
 
 pub take_damage : (old : Planning) (file : FileName) (stored : StoredEntry) (content : Option Content) (mid : Planning) (plan : Planned) (refusal : WalkRefusal) → OpensPlan old file mid plan → plan.form ≡ mid.form → TellsLack plan.form plan.file stored.seen content refusal → DamageBy (refusal_in file refusal) (IsDamageOf old.form file stored content)
 take_damage old file stored content mid plan DiskFault opens form_is lack = tt
