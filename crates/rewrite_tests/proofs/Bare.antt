@@ -8,6 +8,8 @@ use Rattle.arch_base.specs.Configs.{IsConfig}
 use Rattle.disk_model.specs.declared.name.FileKind.{FileKind}
 use Rattle.disk_model.specs.declared.name.FileKind.TheVariants as kind
 use Rattle.disk_model.specs.Disk.{Content, WhereTold, IsLength}
+use Rattle.disk_model.specs.Sizes.{record_size}
+use Rattle.number_map.specs.Sizes.{sizes_none}
 use Rattle.root_slots.specs.declared.root.Place.{Place}
 use Rattle.root_slots.specs.declared.root.Root.{Root}
 use Rattle.root_slots.specs.RootName.{root_name}
@@ -44,7 +46,7 @@ is_bare root config sequence next map epochs cache = record {
     next_least = omega (arith, next);
     next_most = omega (arith, next);
     map_gen = (let gen : root.map.generation ≡ 1 = ap (λ (p : Place). p.generation) map in omega (arith, gen, sequence));
-    map_length = ap (λ (p : Place). p.length) map ∙ sym (ap (λ (n : ℕ). 28 * (n - 1)) next);
+    map_length = ap (λ (p : Place). p.length) map ∙ (sym (sizes_none root.config.form) ∙ sym (ap (λ (n : ℕ). record_size root.config.form * (n - 1)) next));
     epochs = subst (λ (ps : List Place). All (PlaceIsValid root.sequence) ps) (sym epochs) (All-replicate (PlaceIsValid root.sequence) 64 no_place none);
     cache = subst (PlaceIsValid root.sequence) (sym cache) none;
   };

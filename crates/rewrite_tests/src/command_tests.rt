@@ -1,6 +1,6 @@
 //! Plans that are carried out on a disk in memory: what is left at each moment, and after a fault of each
 //! call.
-ghost use Rattle.std.specs.Prelude.{◌≡◌, ◌<◌, ◌^◌, IfOk};
+ghost use Rattle.std.specs.Prelude.{◌≡◌, ◌-◌, ◌*◌, ◌<◌, ◌^◌, IfOk};
 ghost use Rattle.disk_model.specs.declared.name.FileKind.TheVariants as kind;
 ghost use Rattle.disk_model.specs.Disk.{WhereTold};
 ghost use Rattle.disk_model.specs.Sizes.{epoch_count};
@@ -11,7 +11,8 @@ ghost use Rattle.root_change.specs.Rewriting.{IsPlan, no_plan, with_bytes};
 ghost use Rattle.rewrite_tests.specs.Bare.{IsBare};
 
 use crate::plan_tests::{bare, carry_out};
-use disk_model::{Disk, DiskFault, FileKind, FileName, FuseDisk, MemDisk};
+use arch_base::Form;
+use disk_model::{Disk, DiskFault, FileKind, FileName, FuseDisk, MemDisk, records_size};
 use fixtures::empty_disk;
 use root_change::{PartPlan, RewriteRefusal, Target, epoch_file, epoch_place, map_file, rewrite};
 use root_slots::{Root, Slot, begin, read};
@@ -28,6 +29,8 @@ enum Command {
     Begin,
     /// Writes the first epoch anew, and drops the second.
     Remake,
+    /// Writes the first epoch and the map anew, the latter with a record of a SHA-256 id.
+    Turn,
 }
 
 /// Plans bytes of a part. `DiskFault` if memory runs out.
@@ -57,7 +60,7 @@ fn fill_bare<D: Disk>(alloc: Global, disk: &mut D, old: &Root) -> Result<Root, R
     let line = planned(alloc, FileKind::Map, 0, Target::Anew, &[1; 28])?;
     let first = planned(alloc, FileKind::Epoch, 0, Target::Anew, b"abc")?;
     let second = planned(alloc, FileKind::Epoch, 1, Target::Anew, b"de")?;
-    carry_out(disk, old, &[line, first, second], 2)
+    carry_out(disk, old, &[line, first, second], 2, Form::Sha1)
 }
 
 /// Writes the archive that each command finds, and returns its root.
@@ -83,24 +86,60 @@ fn grow<D: Disk>(
     requires root { IsRoot old.now }
     requires later { old.now.sequence < 10 }
     requires number { old.now.next < 10 }
+    requires map { old.now.map.length ≡ 28 * (old.now.next - 1) }
     requires epoch { epoch < epoch_count }
     requires room { (place_of old.now kind.Epoch epoch).length < 2 ^ 62 }
     requires sizes { WhereTold (HasSizes old.now) (D.content disk.old) }
 {
     let entry = planned(alloc, FileKind::Epoch, epoch, Target::Behind, bytes)?;
     let line = planned(alloc, FileKind::Map, 0, Target::Behind, &[7; 28])?;
-    rewrite(disk, Slot::First, old, &[entry, line], old.next + 1)
+    rewrite(
+        disk,
+        Slot::First,
+        old,
+        &[entry, line],
+        old.next + 1,
+        Form::Sha1,
+    )
 }
 
 /// Writes the first epoch anew, and drops the second.
 fn remake<D: Disk>(alloc: Global, disk: &mut D, old: &Root) -> Result<Root, RewriteRefusal>
     requires root { IsRoot old.now }
     requires later { old.now.sequence < 10 }
+    requires map { old.now.map.length ≡ 28 * (old.now.next - 1) }
     requires sizes { WhereTold (HasSizes old.now) (D.content disk.old) }
 {
     let first = planned(alloc, FileKind::Epoch, 0, Target::Anew, b"new")?;
     let second = PartPlan::new(alloc, FileKind::Epoch, 1, Target::Anew);
-    rewrite(disk, Slot::First, old, &[first, second], old.next)
+    rewrite(
+        disk,
+        Slot::First,
+        old,
+        &[first, second],
+        old.next,
+        Form::Sha1,
+    )
+}
+
+/// Writes the map anew with one record of a SHA-256 id, and the first epoch, and turns the archive into
+/// one of such ids.
+fn turn<D: Disk>(alloc: Global, disk: &mut D, old: &Root) -> Result<Root, RewriteRefusal>
+    requires root { IsRoot old.now }
+    requires later { old.now.sequence < 10 }
+    requires number { old.now.next ≡ 2 }
+    requires sizes { WhereTold (HasSizes old.now) (D.content disk.old) }
+{
+    let line = planned(alloc, FileKind::Map, 0, Target::Anew, &[9; 40])?;
+    let first = planned(alloc, FileKind::Epoch, 0, Target::Anew, b"turned")?;
+    rewrite(
+        disk,
+        Slot::First,
+        old,
+        &[line, first],
+        old.next,
+        Form::Sha256,
+    )
 }
 
 /// Runs a command.
@@ -116,6 +155,9 @@ fn run<D: Disk>(
     if root.sequence > 9 || root.next > 9 {
         return Err(RewriteRefusal::DiskFault);
     }
+    if root.map.length != records_size(root.next - 1, Form::Sha1) {
+        return Err(RewriteRefusal::DiskFault);
+    }
     if epoch_place(root, 0).length > 9 || epoch_place(root, 2).length > 9 {
         return Err(RewriteRefusal::DiskFault);
     }
@@ -123,13 +165,15 @@ fn run<D: Disk>(
         Command::Grow => grow(alloc, disk, root, 0, b"fgh"),
         Command::Begin => grow(alloc, disk, root, 2, b"first"),
         Command::Remake => remake(alloc, disk, root),
+        Command::Turn if root.next == 2 => turn(alloc, disk, root),
+        Command::Turn => Err(RewriteRefusal::DiskFault),
     }
 }
 
-/// Returns the sequence of the current root.
-fn current<D: Disk>(disk: &mut D) -> Result<u64, DiskFault> {
+/// Returns the sequence and the form of the current root.
+fn current<D: Disk>(disk: &mut D) -> Result<(u64, Form), DiskFault> {
     match read(disk) {
-        Ok(Some((_, root))) => Ok(root.sequence),
+        Ok(Some((_, root))) => Ok((root.sequence, root.config.form)),
         _ => Err(DiskFault),
     }
 }
@@ -157,13 +201,23 @@ fn is_old(disk: &mut MemDisk) -> Result<bool, DiskFault> {
     Ok(map && first && second)
 }
 
+/// Returns whether the map is that after a command, and ends there if that is asked.
+fn has_next_map(disk: &mut MemDisk, command: Command, ends: bool) -> Result<bool, DiskFault> {
+    match command {
+        Command::Grow | Command::Begin => has_map(disk, true, ends),
+        Command::Remake => has_map(disk, false, ends),
+        Command::Turn => starts(disk, map_file(3), &[9; 40], ends),
+    }
+}
+
 /// Returns whether files stand for the archive after a command, and end there if that is asked.
 fn is_next(disk: &mut MemDisk, command: Command, ends: bool) -> Result<bool, DiskFault> {
-    let map = has_map(disk, command != Command::Remake, ends)?;
+    let map = has_next_map(disk, command, ends)?;
     let first = match command {
         Command::Grow => starts(disk, epoch_file(0, 2), b"abcfgh", ends)?,
         Command::Begin => starts(disk, epoch_file(2, 3), b"first", ends)?,
         Command::Remake => starts(disk, epoch_file(0, 3), b"new", ends)?,
+        Command::Turn => starts(disk, epoch_file(0, 3), b"turned", ends)?,
     };
     let second = match command {
         Command::Remake => starts(disk, epoch_file(1, 2), b"", ends)?,
@@ -172,11 +226,20 @@ fn is_next(disk: &mut MemDisk, command: Command, ends: bool) -> Result<bool, Dis
     Ok(map && first && second)
 }
 
+/// Returns the form of the archive after a command.
+fn form_after(command: Command) -> Form {
+    match command {
+        Command::Grow | Command::Begin | Command::Remake => Form::Sha1,
+        Command::Turn => Form::Sha256,
+    }
+}
+
 /// Returns whether files stand for the archive after a command, or before it if it isn't done.
 fn is_either(disk: &mut MemDisk, command: Command, done: bool) -> Result<bool, DiskFault> {
-    match current(disk)? {
-        2 => Ok(!done && is_old(disk)?),
-        3 => is_next(disk, command, false),
+    let (sequence, form) = current(disk)?;
+    match sequence {
+        2 => Ok(!done && form == Form::Sha1 && is_old(disk)?),
+        3 => Ok(form == form_after(command) && is_next(disk, command, false)?),
         _ => Ok(false),
     }
 }
@@ -194,7 +257,7 @@ fn count_files<D: Disk>(disk: &mut D) -> Result<u64, DiskFault> {
 /// Returns whether a disk is exactly that of the archive after a command.
 fn is_exact(disk: &mut MemDisk, command: Command) -> Result<bool, DiskFault> {
     let files = match command {
-        Command::Grow => 4,
+        Command::Grow | Command::Turn => 4,
         Command::Begin => 5,
         Command::Remake => 3,
     };
@@ -279,4 +342,10 @@ fn an_epoch_gets_its_first_file_or_none(rt: HostRuntime) -> Result<(), Fail> {
 fn an_epoch_is_written_anew_and_another_one_dropped(rt: HostRuntime) -> Result<(), Fail> {
     // The calls are a write, a sync, the six calls of a commit, two removals, and a sync.
     stop_each(&rt, rt.alloc(), Command::Remake, 11)
+}
+
+#[test]
+fn an_archive_is_turned_into_one_of_the_other_form_or_stays(rt: HostRuntime) -> Result<(), Fail> {
+    // The calls are two writes, a sync, the six calls of a commit, two removals, and a sync.
+    stop_each(&rt, rt.alloc(), Command::Turn, 12)
 }

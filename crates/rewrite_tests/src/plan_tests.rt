@@ -1,4 +1,4 @@
-//! Plans of parts, and a plan that is carried out in an archive without messages.
+//! Plans of parts, and a plan that is carried out in an archive without messages, in either form.
 ghost use Rattle.std.specs.Prelude.{◌≤◌, IfOk, IfSome};
 ghost use Rattle.arch_base.specs.Configs.{IsConfig};
 ghost use Rattle.disk_model.specs.Disk.{WhereTold};
@@ -124,43 +124,45 @@ fn first(alloc: Global) -> Result<PartPlan, NoMemory>
     Ok(plan)
 }
 
-/// Carries out plans in an archive without messages.
+/// Carries out plans in an archive without messages, which has this form then.
 pub(crate) fn carry_out<D: Disk>(
     disk: &mut D,
     root: &Root,
     plans: &[PartPlan],
     number: u32,
+    form: Form,
 ) -> Result<Root, RewriteRefusal>
     requires root { IsBare root.now }
     requires plans { MayCarryAll root.now plans.now }
     requires number { (1 ≤ number) × (number ≤ 2147483648) }
-    requires map { MapFits root.now plans.now number }
+    requires map { MapFits root.now plans.now number form }
     ensures root { IfOk result IsRoot }
     ensures sizes { IfOk result (λ made. WhereTold (HasSizes made) (D.content disk.new)) }
 {
     if disk.length(ROOT)? != 4096 {
         return Err(RewriteRefusal::DiskFault);
     }
-    rewrite(disk, Slot::Second, root, plans, number)
+    rewrite(disk, Slot::Second, root, plans, number, form)
 }
 
-/// Returns whether a root is the second one, and names five bytes of the first epoch.
-fn is_second(root: &Root) -> bool {
+/// Returns whether a root is the second one, of this form, and names five bytes of the first epoch.
+fn is_second(root: &Root, form: Form) -> bool {
     let place = Place {
         generation: 2,
         length: 5,
     };
-    root.sequence == 2 && root.next == 1 && root.epochs[0] == place && root.map.length == 0
+    let named = root.epochs[0] == place && root.map.length == 0;
+    root.config.form == form && root.sequence == 2 && root.next == 1 && named
 }
 
-/// Returns whether the current root is the second one, in the second slot, and the file of the first
-/// epoch has the five bytes.
-fn is_written<D: Disk>(disk: &mut D) -> Result<bool, DiskFault> {
+/// Returns whether the current root is the second one, of this form and in the second slot, and the file
+/// of the first epoch has the five bytes.
+fn is_written<D: Disk>(disk: &mut D, form: Form) -> Result<bool, DiskFault> {
     let mut bytes = [0; 6];
     let count = disk.read(WRITTEN, 0, &mut bytes)?;
     let whole = count == 5 && bytes == *b"abcde\0";
     match read(disk) {
-        Ok(Some((Slot::Second, root))) => Ok(whole && is_second(&root)),
+        Ok(Some((Slot::Second, root))) => Ok(whole && is_second(&root, form)),
         _ => Ok(false),
     }
 }
@@ -170,14 +172,31 @@ fn carries<D: Disk>(alloc: Global, disk: &mut D) -> Result<Root, Fail> {
     let root = bare().ok_or("no name")?;
     let plan = first(alloc)?;
     begin(disk)?;
-    Ok(carry_out(disk, &root, &[plan], 1)?)
+    Ok(carry_out(disk, &root, &[plan], 1, Form::Sha1)?)
+}
+
+/// Carries out the same plan, and turns the archive into one with SHA-256 ids.
+fn turns<D: Disk>(alloc: Global, disk: &mut D) -> Result<Root, Fail> {
+    let root = bare().ok_or("no name")?;
+    let plan = first(alloc)?;
+    begin(disk)?;
+    Ok(carry_out(disk, &root, &[plan], 1, Form::Sha256)?)
 }
 
 #[test]
 fn a_plan_is_carried_out_with_its_root(rt: HostRuntime) -> Result<(), Fail> {
     let mut disk = empty_disk(rt.alloc());
     let root = carries(rt.alloc(), &mut disk)?;
-    assert!(rt; is_second(&root));
-    assert!(rt; is_written(&mut disk)?);
+    assert!(rt; is_second(&root, Form::Sha1));
+    assert!(rt; is_written(&mut disk, Form::Sha1)?);
+    Ok(())
+}
+
+#[test]
+fn a_plan_is_carried_out_with_a_root_of_the_other_form(rt: HostRuntime) -> Result<(), Fail> {
+    let mut disk = empty_disk(rt.alloc());
+    let root = turns(rt.alloc(), &mut disk)?;
+    assert!(rt; is_second(&root, Form::Sha256));
+    assert!(rt; is_written(&mut disk, Form::Sha256)?);
     Ok(())
 }

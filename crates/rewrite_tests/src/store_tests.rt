@@ -1,18 +1,18 @@
-//! Purges and edits of an archive that is written by hand, which is then opened again.
+//! Purges and edits of an archive of either form that is written by hand, which is then opened again.
 ghost use Rattle.std.specs.Prelude.{◌≡◌, ◌≢◌, Some, IsTrue};
 ghost use Rattle.disk_model.specs.Disk.{WhereTold};
 ghost use Rattle.git_objects.specs.declared.entry_kind.EntryKind.TheVariants.{Message};
 ghost use Rattle.mail_reader.specs.Ids.{own_id as own_id_in};
 ghost use Rattle.epoch_store.specs.Commands.{StoreHasSizes, MayEdit, MayPurge};
 
-use crate::entries_tests::{ALONE_COMMIT, put_two};
-use crate::map_tests::BYTES;
+use crate::entries_tests::{alone_commit, alone_length, both_length, put_two, second_blob};
+use crate::map_tests::first_bytes_of;
 use crate::plan_tests::ROOT;
-use arch_base::{Form, ObjectId, id_of_hex};
-use disk_model::{Disk, DiskFault, FileKind, FileName, MemDisk};
+use arch_base::{Form, ObjectId};
+use disk_model::{Disk, DiskFault, FileKind, FileName, MemDisk, records_size};
 use epoch_file::StoreRefusal;
 use epoch_store::Store;
-use fixtures::{FIRST, LATER, MOMENT, SECOND, SECOND_ID, THIRD, empty_disk, write};
+use fixtures::{FIRST, LATER, MOMENT, SECOND, THIRD, empty_disk, write};
 use git_objects::{EntryKind, blob_id};
 use mail_commits::text_ids;
 use mail_reader::{is_stored, own_id};
@@ -35,8 +35,8 @@ const MAP_ANEW: FileName = FileName {
     generation: 4,
 };
 
-/// The bytes of the root file that aren't 0: a root of sequence 3 in the first slot, with two numbers
-/// taken, and an epoch of 672 bytes, which takes more.
+/// The bytes of the root file that aren't 0: a root of SHA-1 ids and sequence 3 in the first slot, with
+/// two numbers taken, and an epoch of 672 bytes, which takes more.
 const ROOT_BYTES: [(u64, u8); 15] = [
     (0, 1),
     (1031, 3),
@@ -55,13 +55,25 @@ const ROOT_BYTES: [(u64, u8); 15] = [
     (1154, 160),
 ];
 
-/// Writes the root file.
-fn put_root(disk: &mut MemDisk) -> Result<(), DiskFault> {
-    write(disk, ROOT, 0, &[0; 4096])?;
-    for (at, byte) in &ROOT_BYTES {
+/// The bytes that differ in one of SHA-256 ids: its format is 2, the map has 80 bytes, and the epoch 768.
+const LONG_ROOT_BYTES: [(u64, u8); 4] = [(1032, 2), (1138, 80), (1153, 3), (1154, 0)];
+
+/// Writes these bytes over the root file.
+fn put_bytes(disk: &mut MemDisk, bytes: &[(u64, u8)]) -> Result<(), DiskFault> {
+    for (at, byte) in bytes {
         write(disk, ROOT, *at, &[*byte])?;
     }
     Ok(())
+}
+
+/// Writes the root file of an archive of a form.
+fn put_root(disk: &mut MemDisk, form: Form) -> Result<(), DiskFault> {
+    write(disk, ROOT, 0, &[0; 4096])?;
+    put_bytes(disk, &ROOT_BYTES)?;
+    match form {
+        Form::Sha1 => Ok(()),
+        Form::Sha256 => put_bytes(disk, &LONG_ROOT_BYTES),
+    }
 }
 
 /// Appends the record of a message in the first epoch to the map.
@@ -78,13 +90,13 @@ fn add_record(disk: &mut MemDisk, number: u32, blob: ObjectId) -> Result<(), Dis
     append(disk, MAP, at, &line)
 }
 
-/// Returns the disk of an archive of the first two mails, in one epoch.
-fn filled(alloc: Global) -> Result<MemDisk, StoreRefusal> {
+/// Returns the disk of an archive of a form of the first two mails, in one epoch.
+fn filled(alloc: Global, form: Form) -> Result<MemDisk, StoreRefusal> {
     let mut disk = empty_disk(alloc);
-    put_two(alloc, &mut disk)?;
-    add_record(&mut disk, 1, blob_id(FIRST, Form::Sha1))?;
-    add_record(&mut disk, 2, blob_id(SECOND, Form::Sha1))?;
-    put_root(&mut disk)?;
+    put_two(alloc, &mut disk, form)?;
+    add_record(&mut disk, 1, blob_id(FIRST, form))?;
+    add_record(&mut disk, 2, blob_id(SECOND, form))?;
+    put_root(&mut disk, form)?;
     disk.sync()?;
     Ok(disk)
 }
@@ -155,7 +167,7 @@ fn may_edit(store: &Store, blob: &ObjectId, text: &[u8]) -> bool
 fn purge_first<D: Disk>(alloc: Global, disk: &mut D, store: &mut Store) -> Result<(), StoreRefusal>
     requires sizes { WhereTold (StoreHasSizes store.old) (D.content disk.old) }
 {
-    let blob = blob_id(FIRST, Form::Sha1);
+    let blob = blob_id(FIRST, store.config().form);
     if !may_purge(store, &blob) {
         return Err(StoreRefusal::Damaged { file: ROOT, at: 4 });
     }
@@ -166,35 +178,29 @@ fn purge_first<D: Disk>(alloc: Global, disk: &mut D, store: &mut Store) -> Resul
 fn edit_first<D: Disk>(alloc: Global, disk: &mut D, store: &mut Store) -> Result<(), StoreRefusal>
     requires sizes { WhereTold (StoreHasSizes store.old) (D.content disk.old) }
 {
-    let blob = blob_id(FIRST, Form::Sha1);
+    let form = store.config().form;
+    let blob = blob_id(FIRST, form);
     if !may_edit(store, &blob, THIRD) {
         return Err(StoreRefusal::Damaged { file: ROOT, at: 5 });
     }
-    store.edit_text(
-        alloc,
-        disk,
-        &blob,
-        THIRD,
-        &text_ids(THIRD, Form::Sha1),
-        LATER,
-    )
+    store.edit_text(alloc, disk, &blob, THIRD, &text_ids(THIRD, form), LATER)
 }
 
-/// Returns whether the first entry of an archive is the second mail, with the commit that git gives it
-/// without a parent, at the front of a new file.
-fn has_second_first(store: &Store) -> bool {
+/// Returns whether the first entry of an archive of a form is the second mail, with the commit that git
+/// gives it without a parent, at the front of a new file.
+fn has_second_first(store: &Store, form: Form) -> bool {
     let Some(line) = store.entry(0) else {
         return false;
     };
     let named = line.kind == EntryKind::Message && line.number == 2 && line.secs == MOMENT;
-    let blob = Some(line.blob) == id_of_hex(SECOND_ID, Form::Sha1);
-    let commit = Some(line.commit) == id_of_hex(ALONE_COMMIT, Form::Sha1);
+    let blob = Some(line.blob) == second_blob(form);
+    let commit = Some(line.commit) == alone_commit(form);
     named && blob && commit && store.place(0) == Some((first_epoch(4), 8))
 }
 
-/// Returns whether an archive has the second mail alone, and no number was given back.
-fn has_second_alone(store: &Store) -> bool {
-    has_second_first(store) && store.entry(1).is_none() && store.next_number() == 3
+/// Returns whether an archive of a form has the second mail alone, and no number was given back.
+fn has_second_alone(store: &Store, form: Form) -> bool {
+    has_second_first(store, form) && store.entry(1).is_none() && store.next_number() == 3
 }
 
 /// Returns whether a root, the map and one epoch of these lengths are all files.
@@ -204,70 +210,77 @@ fn has_files<D: Disk>(disk: &mut D, map: u64, first: u64) -> Result<bool, DiskFa
     Ok(lengths && last)
 }
 
-/// Returns whether the new map begins with the record of the number 1 without a message.
-fn begins_without_first<D: Disk>(disk: &mut D) -> Result<bool, DiskFault> {
-    let mut record = [7; 28];
+/// Returns whether the new map begins with the record of a form of the number 1 without a message.
+fn begins_without_first<D: Disk>(disk: &mut D, form: Form) -> Result<bool, DiskFault> {
+    let mut record = [7; 80];
     let count = disk.read(MAP_ANEW, 0, &mut record)?;
-    Ok(count == 28 && record.as_slice() == BYTES.split_at(28).0)
+    Ok(record[..count].starts_with(first_bytes_of(form)))
 }
 
-/// Purges the first of two messages, and returns whether the second one is left, in files of its own.
-fn purges<D: Disk>(alloc: Global, disk: &mut D) -> Result<bool, Fail> {
+/// Purges the first of two messages of an archive of a form, and returns whether the second one is left,
+/// in files of its own.
+fn purges<D: Disk>(alloc: Global, disk: &mut D, form: Form) -> Result<bool, Fail> {
     let (mut store, _index) = Store::open(alloc, disk)?;
     purge_first(alloc, disk, &mut store)?;
-    let files = has_files(disk, 56, 316)? && begins_without_first(disk)?;
-    Ok(files && has_second_alone(&store))
+    let files = has_files(disk, records_size(2, form), alone_length(form))?;
+    let begins = begins_without_first(disk, form)?;
+    Ok(files && begins && has_second_alone(&store, form))
 }
 
 /// Opens an archive, and returns whether it has the second mail alone.
-fn opens_alone<D: Disk>(alloc: Global, disk: &mut D) -> Result<bool, Fail> {
+fn opens_alone<D: Disk>(alloc: Global, disk: &mut D, form: Form) -> Result<bool, Fail> {
     let (store, _index) = Store::open(alloc, disk)?;
-    Ok(has_second_alone(&store))
+    Ok(has_second_alone(&store, form))
 }
 
 #[test]
 fn a_purge_leaves_the_other_message(rt: HostRuntime) -> Result<(), Fail> {
-    let mut disk = filled(rt.alloc())?;
-    assert!(rt; purges(rt.alloc(), &mut disk)?);
-    assert!(rt; opens_alone(rt.alloc(), &mut disk)?);
+    for form in [Form::Sha1, Form::Sha256] {
+        let mut disk = filled(rt.alloc(), form)?;
+        assert!(rt; purges(rt.alloc(), &mut disk, form)?, "{form:?}");
+        assert!(rt; opens_alone(rt.alloc(), &mut disk, form)?, "{form:?}");
+    }
     Ok(())
 }
 
-/// Returns whether the second entry of an archive is the third mail, after the second one in its epoch.
-fn has_third_second(store: &Store) -> bool {
+/// Returns whether the second entry of an archive of a form is the third mail, after the second one in its
+/// epoch.
+fn has_third_second(store: &Store, form: Form) -> bool {
     let Some(line) = store.entry(1) else {
         return false;
     };
     let named = line.kind == EntryKind::Message && line.number == 3 && line.secs == LATER;
-    let place = store.place(1) == Some((first_epoch(4), 316));
-    named && line.blob == blob_id(THIRD, Form::Sha1) && line.epoch == 0 && place
+    let place = store.place(1) == Some((first_epoch(4), alone_length(form)));
+    named && line.blob == blob_id(THIRD, form) && line.epoch == 0 && place
 }
 
-/// Returns whether an archive has the second mail and the third one.
-fn has_second_and_third(store: &Store) -> bool {
-    let both = has_second_first(store) && has_third_second(store);
+/// Returns whether an archive of a form has the second mail and the third one.
+fn has_second_and_third(store: &Store, form: Form) -> bool {
+    let both = has_second_first(store, form) && has_third_second(store, form);
     both && store.entry(2).is_none() && store.next_number() == 4
 }
 
-/// Edits the first of two messages, and returns whether the second one and the new one are left, in files
-/// of their own.
-fn edits<D: Disk>(alloc: Global, disk: &mut D) -> Result<bool, Fail> {
+/// Edits the first of two messages of an archive of a form, and returns whether the second one and the
+/// new one are left, in files of their own.
+fn edits<D: Disk>(alloc: Global, disk: &mut D, form: Form) -> Result<bool, Fail> {
     let (mut store, _index) = Store::open(alloc, disk)?;
     edit_first(alloc, disk, &mut store)?;
-    let files = has_files(disk, 84, 672)?;
-    Ok(files && has_second_and_third(&store))
+    let files = has_files(disk, records_size(3, form), both_length(form))?;
+    Ok(files && has_second_and_third(&store, form))
 }
 
 /// Opens an archive, and returns whether it has the second mail and the third one.
-fn opens_both<D: Disk>(alloc: Global, disk: &mut D) -> Result<bool, Fail> {
+fn opens_both<D: Disk>(alloc: Global, disk: &mut D, form: Form) -> Result<bool, Fail> {
     let (store, _index) = Store::open(alloc, disk)?;
-    Ok(has_second_and_third(&store))
+    Ok(has_second_and_third(&store, form))
 }
 
 #[test]
 fn an_edit_leaves_the_other_message_and_the_new_one(rt: HostRuntime) -> Result<(), Fail> {
-    let mut disk = filled(rt.alloc())?;
-    assert!(rt; edits(rt.alloc(), &mut disk)?);
-    assert!(rt; opens_both(rt.alloc(), &mut disk)?);
+    for form in [Form::Sha1, Form::Sha256] {
+        let mut disk = filled(rt.alloc(), form)?;
+        assert!(rt; edits(rt.alloc(), &mut disk, form)?, "{form:?}");
+        assert!(rt; opens_both(rt.alloc(), &mut disk, form)?, "{form:?}");
+    }
     Ok(())
 }
