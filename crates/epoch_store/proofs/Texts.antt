@@ -89,7 +89,7 @@ stands_is_text : (v : StoreState) (a : Archive) (k : Content) (i : ℕ) (s : Sto
     → StandsAt (bytes_of (k (epoch_file_of v.root s.epoch)).seen) s.seen.text_at s.seen.size text → (text_if (slice_get a.entries i) ≡ Some text) × (blob_id_of (form_of s.seen.blob) text ≡ s.seen.blob)
 stands_is_text v a k i s text at stands =
     let same : text ≡ at.entry.text = stands at.long ∙ at.stands in
-    (ap text_if at.here ∙ ap (λ (t : List ℕ). Some t) (sym same), in_own_form (ap (blob_id_of a.config.form) same ∙ sym at.blob))
+    (ap text_if at.here ∙ ap (λ (t : List ℕ). Some t) (sym same), in_own_form a.config.form text s.seen.blob (ap (blob_id_of a.config.form) same ∙ sym at.blob))
 
 -- So the text is read, and no damage is found.
 pub right_text : (v : StoreState) (cache : List ℕ) (a : Archive) (k : Option Content) (i : ℕ) (s : StoredEntry) (text : List ℕ) → IsStoreWith v cache a k → slice_get v.entries i ≡ Some s

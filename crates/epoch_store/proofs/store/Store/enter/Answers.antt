@@ -71,6 +71,11 @@ returns-clause-changes g c =
       crash_root = subst (λ (n : ℕ). BeginsRootIn g.D.Disk n c.args.disk.now c.write_entry.new.disk) (c.other-free.ensures ∙ ap (λ (u : StoreState). 1 - u.slot) c.self.view_is) c.write_entry.ensures.crash_root;
     }
 
+pub invariant_of-self-2 : goal.invariant_of-self-2
+invariant_of-self-2 g c =
+    let items = sym c.reserve.ensures.items in
+    (c.self.invariant.0, subst InEpochs items c.self.invariant.1, subst (AreNamed c.self.inside.root) items c.self.invariant.2)
+
 pub invariant_of-self-3 : goal.invariant_of-self-3
 invariant_of-self-3 g c =
     let stored = c.new_entry-stored.result in
