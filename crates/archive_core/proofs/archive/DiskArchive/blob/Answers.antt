@@ -11,7 +11,7 @@ text-requires g c = record { there = slice_get_within c.self.inside.store.entrie
 
 pub returns-in_default-clause-blob : goal.returns-in_default-clause-blob
 returns-in_default-clause-blob g c = λ a cache own.
-    subst (λ (o : Option ℕ). IsBlobIndex a.entries c.args.id.now o) c.in_default.is (c.blob_index.ensures.index a (store_keeps c.args.self.now cache a (g.D.Disk.content c.args.disk.now) own))
+    subst (λ (o : Option ℕ). IsBlobIndex a.config.form a.entries c.args.id.now o) c.in_default.is (c.blob_index.ensures.index a (store_keeps c.args.self.now cache a (g.D.Disk.content c.args.disk.now) own))
 
 pub returns-in-Ok-clause-blob : goal.returns-in-Ok-clause-blob
 returns-in-Ok-clause-blob g c = λ a cache own.
