@@ -53,7 +53,7 @@ place-damage v index old new (reading.Damaged named other) k gives finds = at_pl
   lacks s here None found = tt
   lacks s here (Some c) found = λ has.
       let given = gives s here in
-      given.2 (found.2 ∙ (ap (blob_id_of (form_of s.seen.blob)) (found.1 has.long) ∙ (in_own_form has.blob ∙ sym given.1)))
+      given.2 (found.2 ∙ (ap (blob_id_of (form_of s.seen.blob)) (found.1 has.long) ∙ (in_own_form v.root.config.form _ s.seen.blob has.blob ∙ sym given.1)))
 
   at_place : (o : Option StoredEntry) → slice_get v.entries index ≡ o → TellsEntry v k (damaged_place v o)
   at_place None here = tt

@@ -56,7 +56,7 @@ sound-undamaged v k i s old new reading.DiskFault texts there given finds = tt
 sound-undamaged v k i s old new reading.NoMemory texts there given finds = tt
 sound-undamaged v k i s old new (reading.Damaged named found) texts there given finds =
     let here = texts i s there in
-    let same : found ≡ named = finds.2 ∙ ap (blob_id_of (form_of s.seen.blob)) (finds.1 here.long) ∙ in_own_form here.blob ∙ sym given.1 in
+    let same : found ≡ named = finds.2 ∙ ap (blob_id_of (form_of s.seen.blob)) (finds.1 here.long) ∙ in_own_form v.root.config.form _ s.seen.blob here.blob ∙ sym given.1 in
     given.2 same
 
 pub sound-if : (v : StoreState) (k : Option Content) (i : ℕ) (s : StoredEntry) (old new : List ℕ) (r : Result Unit TextRefusal) → IsSound v k → slice_get v.entries i ≡ Some s → GivesText s old new r → WhereTold (FindsText v.root s old new r) k → IfErr r IsUndamaged
