@@ -23,27 +23,27 @@ number_to_next-requires c =
 
 pub append_message-requires : goal.append_message-requires
 append_message-requires c =
-    let again = again-message c.args.self.now (entry_of c.args.kept.now) c.unwrap-commit.result c.in_ok-end.end c.in-Message.is c.requires (end-again c.self.inside.config c.self.inside.kept.items c.self.inside.places.items c.self.inside.index c.self.inside.end c.args.self.now (entry_of c.args.kept.now) c.in_epoch-begin.result c.in_ok-end.end c.as_slice-spelled.result.now c.unwrap-commit.result c.self.view_is c.self.invariant.0 c.requires c.in_epoch-begin.ensures c.in_ok-end.ensures c.as_slice-spelled.ensures c.unwrap-commit.ensures) in
+    let again = again-message c.args.self.now (entry_of c.args.kept.now) c.unwrap-commit.result c.in_ok-end.end c.in-Message.is c.requires (end-again c.self.inside.config c.self.inside.kept.items c.self.inside.places.items c.self.inside.index c.self.inside.end c.args.self.now (entry_of c.args.kept.now) c.in_epoch-begin.result c.in_ok-end.end c.as_slice.result.now c.unwrap-commit.result c.self.view_is c.self.invariant.0 c.requires c.in_epoch-begin.ensures c.in_ok-end.ensures c.as_slice.ensures c.unwrap-commit.ensures) in
     let now = appends-same (numbered_to c.args.self.now c.args.kept.now.number) c.number_to_next.new.self (entry_of c.args.kept.now) (entry_of c.in_ok-entry.entry) c.unwrap-commit.result c.in_ok-entry.entry.commit c.in_ok-end.end (appended_as c.args.self.now (entry_of c.args.kept.now)) c.in_ok-number_to_next-in-Message.ensures.ok c.in_ok-entry.ensures.entry c.in_ok-entry.ensures.commit again.0 in
     let ids =
     c.text_ids-ids.ensures
-    ∙ ap (text_ids_of c.self.inside.config.form) (c.as_slice-spelled.ensures ∙ sym (ap (λ (e : Entry). e.text) c.in_ok-entry.ensures.entry))
+    ∙ ap (text_ids_of c.self.inside.config.form) (c.as_slice.ensures ∙ sym (ap (λ (e : Entry). e.text) c.in_ok-entry.ensures.entry))
     ∙ ap (λ (a : Archive). text_ids_of a.config.form c.in_ok-entry.entry.text) (c.self.view_is)
     ∙ sym (ap (λ (a : Archive). text_ids_of a.config.form c.in_ok-entry.entry.text) c.in_ok-number_to_next-in-Message.ensures.ok) in
     record { ids = ids; follows = now.follows; number = ap (λ (e : Entry). e.number) c.in_ok-entry.ensures.entry ∙ again.1 ∙ sym (ap (λ (a : Archive). a.next) c.in_ok-number_to_next-in-Message.ensures.ok); ends = now.ends }
 
 pub returns-in_ok-number_to_next-in-Message : goal.returns-in_ok-number_to_next-in-Message
 returns-in_ok-number_to_next-in-Message c =
-    let again = again-message c.args.self.now (entry_of c.args.kept.now) c.unwrap-commit.result c.in_ok-end.end c.in-Message.is c.requires (end-again c.self.inside.config c.self.inside.kept.items c.self.inside.places.items c.self.inside.index c.self.inside.end c.args.self.now (entry_of c.args.kept.now) c.in_epoch-begin.result c.in_ok-end.end c.as_slice-spelled.result.now c.unwrap-commit.result c.self.view_is c.self.invariant.0 c.requires c.in_epoch-begin.ensures c.in_ok-end.ensures c.as_slice-spelled.ensures c.unwrap-commit.ensures) in
+    let again = again-message c.args.self.now (entry_of c.args.kept.now) c.unwrap-commit.result c.in_ok-end.end c.in-Message.is c.requires (end-again c.self.inside.config c.self.inside.kept.items c.self.inside.places.items c.self.inside.index c.self.inside.end c.args.self.now (entry_of c.args.kept.now) c.in_epoch-begin.result c.in_ok-end.end c.as_slice.result.now c.unwrap-commit.result c.self.view_is c.self.invariant.0 c.requires c.in_epoch-begin.ensures c.in_ok-end.ensures c.as_slice.ensures c.unwrap-commit.ensures) in
     let now = appends-same (numbered_to c.args.self.now c.args.kept.now.number) c.number_to_next.new.self (entry_of c.args.kept.now) (entry_of c.in_ok-entry.entry) c.unwrap-commit.result c.in_ok-entry.entry.commit c.in_ok-end.end (appended_as c.args.self.now (entry_of c.args.kept.now)) c.in_ok-number_to_next-in-Message.ensures.ok c.in_ok-entry.ensures.entry c.in_ok-entry.ensures.commit again.0 in
     on_ok_weaker c.append_message.result (λ is. is ∙ now.gives) c.append_message.ensures.ok
 
 pub append_deletion-requires : goal.append_deletion-requires
 append_deletion-requires c =
-    let now = appends-same c.args.self.now c.args.self.now (entry_of c.args.kept.now) (entry_of c.in_ok-entry.entry) c.unwrap-commit.result c.in_ok-entry.entry.commit c.in_ok-end.end (appended_as c.args.self.now (entry_of c.args.kept.now)) refl c.in_ok-entry.ensures.entry c.in_ok-entry.ensures.commit (again-deletion c.args.self.now (entry_of c.args.kept.now) c.unwrap-commit.result c.in_ok-end.end c.requires (end-again c.self.inside.config c.self.inside.kept.items c.self.inside.places.items c.self.inside.index c.self.inside.end c.args.self.now (entry_of c.args.kept.now) c.in_epoch-begin.result c.in_ok-end.end c.as_slice-spelled.result.now c.unwrap-commit.result c.self.view_is c.self.invariant.0 c.requires c.in_epoch-begin.ensures c.in_ok-end.ensures c.as_slice-spelled.ensures c.unwrap-commit.ensures)) in
+    let now = appends-same c.args.self.now c.args.self.now (entry_of c.args.kept.now) (entry_of c.in_ok-entry.entry) c.unwrap-commit.result c.in_ok-entry.entry.commit c.in_ok-end.end (appended_as c.args.self.now (entry_of c.args.kept.now)) refl c.in_ok-entry.ensures.entry c.in_ok-entry.ensures.commit (again-deletion c.args.self.now (entry_of c.args.kept.now) c.unwrap-commit.result c.in_ok-end.end c.requires (end-again c.self.inside.config c.self.inside.kept.items c.self.inside.places.items c.self.inside.index c.self.inside.end c.args.self.now (entry_of c.args.kept.now) c.in_epoch-begin.result c.in_ok-end.end c.as_slice.result.now c.unwrap-commit.result c.self.view_is c.self.invariant.0 c.requires c.in_epoch-begin.ensures c.in_ok-end.ensures c.as_slice.ensures c.unwrap-commit.ensures)) in
     record { follows = now.follows; kind = ap (λ (e : Entry). e.kind) c.in_ok-entry.ensures.entry ∙ c.in-Deletion.is; ends = now.ends }
 
 pub returns-in-Deletion : goal.returns-in-Deletion
 returns-in-Deletion c =
-    let now = appends-same c.args.self.now c.args.self.now (entry_of c.args.kept.now) (entry_of c.in_ok-entry.entry) c.unwrap-commit.result c.in_ok-entry.entry.commit c.in_ok-end.end (appended_as c.args.self.now (entry_of c.args.kept.now)) refl c.in_ok-entry.ensures.entry c.in_ok-entry.ensures.commit (again-deletion c.args.self.now (entry_of c.args.kept.now) c.unwrap-commit.result c.in_ok-end.end c.requires (end-again c.self.inside.config c.self.inside.kept.items c.self.inside.places.items c.self.inside.index c.self.inside.end c.args.self.now (entry_of c.args.kept.now) c.in_epoch-begin.result c.in_ok-end.end c.as_slice-spelled.result.now c.unwrap-commit.result c.self.view_is c.self.invariant.0 c.requires c.in_epoch-begin.ensures c.in_ok-end.ensures c.as_slice-spelled.ensures c.unwrap-commit.ensures)) in
+    let now = appends-same c.args.self.now c.args.self.now (entry_of c.args.kept.now) (entry_of c.in_ok-entry.entry) c.unwrap-commit.result c.in_ok-entry.entry.commit c.in_ok-end.end (appended_as c.args.self.now (entry_of c.args.kept.now)) refl c.in_ok-entry.ensures.entry c.in_ok-entry.ensures.commit (again-deletion c.args.self.now (entry_of c.args.kept.now) c.unwrap-commit.result c.in_ok-end.end c.requires (end-again c.self.inside.config c.self.inside.kept.items c.self.inside.places.items c.self.inside.index c.self.inside.end c.args.self.now (entry_of c.args.kept.now) c.in_epoch-begin.result c.in_ok-end.end c.as_slice.result.now c.unwrap-commit.result c.self.view_is c.self.invariant.0 c.requires c.in_epoch-begin.ensures c.in_ok-end.ensures c.as_slice.ensures c.unwrap-commit.ensures)) in
     on_ok_weaker c.append_deletion.result (λ is. is ∙ now.gives) c.append_deletion.ensures.ok

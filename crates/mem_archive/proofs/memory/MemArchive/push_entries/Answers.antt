@@ -14,7 +14,7 @@ loop-kept-preserved c =
     let at : c.kept-item.result ≡ get_or c.self.inside.kept.items c.loop-kept.kept-index c.kept-item.result = rw items at c.kept-item.is in
     elim c.if-kept-epoch.branch [
       | then-kept-epoch+in_ok-push_after w ↦ (
-          let text : w.as_slice-entry.result.now ≡ c.kept-item.result.text = w.as_slice-entry.ensures in
+          let text : w.as_slice.result.now ≡ c.kept-item.result.text = w.as_slice.ensures in
           let same : c.kept-item.result.epoch ≡ c.args.epoch = grind (arith, nat_tests, w.if-kept-epoch.true) in
           let more = pushed-one c.self.inside.config.form c.self.inside.kept.items c.args.epoch c.args.into.now c.loop-kept.kept-index c.kept-item.result c.loop-kept.into c.loop-kept.parent below at same c.loop-kept.invariant in
           let into : c.if-kept-epoch.into ≡ c.loop-kept.into ++ (front_bytes c.self.inside.config.form c.loop-kept.parent ++ entry_bytes c.self.inside.config.form c.kept-item.result.kind c.kept-item.result.text c.kept-item.result.moment c.loop-kept.parent) =
