@@ -1,7 +1,9 @@
 //! Maps of both forms on a disk in memory: their bytes, what is read of them, and where they are damaged.
+ghost use Rattle.std.specs.Prelude.{◌≤◌};
+
 use crate::file_names::M;
 use arch_base::{Form, Numbers, ObjectId};
-use disk_model::{Disk, DiskFault, FuseDisk, MemDisk, WalkRefusal, record_size};
+use disk_model::{Disk, DiskFault, FuseDisk, MemDisk, WalkRefusal, records_size};
 use number_map::{Record, Records, append, law_of_records, walk};
 use std::alloc::Global;
 use std::process::Abort;
@@ -76,8 +78,10 @@ fn bytes_of(form: Form) -> &'static [u8] {
 }
 
 /// Returns the length of so many records, up to 10,000.
-fn length_of(form: Form, count: u32) -> u64 {
-    record_size(form) as u64 * u64::from(count.min(10_000))
+fn length_of(form: Form, count: u32) -> u64
+    ensures { result ≤ 400000 }
+{
+    records_size(count.min(10_000), form)
 }
 
 /// Bytes that are put over those of the three records.
