@@ -112,6 +112,7 @@ plan_goes n (Some plan) place = target_goes n plan.target place (plan_count plan
 pub carried_on : (old new : Root) (plans : List Plan) (next : ℕ) → IsReadyPlan old plans next → IsRootAfter old plans next old.config.form new → GoesOnAnew old new
 carried_on old new plans next ready after = record {
   sequence = after.sequence;
+  config = after.config;
   map =
       ap (λ (q : Place). q.generation) after.map
       ∙ (ap (λ (o : Option Plan). (map_planned (old.sequence + 1) o old.map).generation) ready.map_is

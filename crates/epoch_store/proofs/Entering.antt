@@ -127,6 +127,7 @@ module _ (root : Root) (p : NextPlace) (is : p ≡ place_at root p.epoch p.paren
   pub goes_on_after : (kind_ : EntryKind) (end_ : ℕ) → length root.epochs ≡ 64 → RootGoesOn root (root_after root kind_ p end_)
   goes_on_after kind_ end_ count = record {
     sequence = refl;
+    config = refl;
     map = refl;
     cache = refl;
     epochs = λ e below. elim (equal_or_not e p.epoch) [

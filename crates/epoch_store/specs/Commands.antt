@@ -136,11 +136,12 @@ UnlessFailed (Ok given) P = Unit {0}
 UnlessFailed (Err DiskFault) P = Unit {0}
 UnlessFailed _ P = P
 
--- A root goes on from another one. Its sequence is one more. The map and the cache stay in their
--- files. Each epoch stays in its file, or has its first bytes in a file whose generation is the new
--- sequence.
+-- A root goes on from another one. Its sequence is one more, and the settings stay. The map and the
+-- cache stay in their files. Each epoch stays in its file, or has its first bytes in a file whose
+-- generation is the new sequence.
 pub record RootGoesOn (old new : Root) : Type 0 where
   pub sequence : new.sequence ≡ next_sequence old.sequence
+  pub config : new.config ≡ old.config
   pub map : new.map.generation ≡ old.map.generation
   pub cache : new.cache ≡ old.cache
   pub epochs : (e : ℕ) → e < epoch_count
@@ -192,11 +193,12 @@ pub record EditsEntries (old new : StoreState) (blob : ObjectId) (text : List �
   pub next : new.root.next ≡ old.root.next + 1
   pub config : new.root.config ≡ old.root.config
 
--- A root goes on from another one whose parts were written anew. Its sequence is one more, the map is in
--- a file of that generation, and there is no cache. Each epoch stays in its file, or is in one of that
--- generation, or has none.
+-- A root goes on from another one whose parts were written anew. Its sequence is one more, the settings
+-- stay, the map is in a file of that generation, and there is no cache. Each epoch stays in its file,
+-- or is in one of that generation, or has none.
 pub record GoesOnAnew (old new : Root) : Type 0 where
   pub sequence : new.sequence ≡ old.sequence + 1
+  pub config : new.config ≡ old.config
   pub map : new.map.generation ≡ new.sequence
   pub cache : new.cache ≡ no_place
   pub epochs : (e : ℕ) → e < epoch_count

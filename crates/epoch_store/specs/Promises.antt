@@ -47,7 +47,7 @@ pub record MakesArchive {D : Type 0} (g : Disk D) (old new : D) (config : Config
       (g.content new))
   pub settled : OnOk result (WhereTold IsSettled (g.content new))
   pub sizes : IfOk result (λ (v : StoreState). WhereTold (StoreHasSizes v) (g.content new))
-  pub first : IfOk result (λ (v : StoreState). v.root.sequence ≡ 1)
+  pub root : IfOk result (λ (v : StoreState). v.root ≡ first_root_of config)
   pub slot : IfOk result (λ (v : StoreState). v.slot ≡ 0)
   pub none : IfOk result (λ (v : StoreState). v.entries ≡ [])
   pub cause : RoseIf (result ≡ Err making.DiskFault) (g.faults old) (g.faults new)

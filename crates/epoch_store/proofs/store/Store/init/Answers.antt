@@ -30,7 +30,7 @@ returns-in_err-make g c =
         done = search rules;
         settled = search rules;
         sizes = search rules;
-        first = search rules;
+        root = search rules;
         slot = search rules;
         none = search rules;
         cause = search rules;
@@ -62,7 +62,7 @@ returns g c =
         settled = only_settled config k3 only;
         sizes = subst (λ (es : List StoredEntry). WhereTold (StoreHasSizes (record { root = c.first_root-root.result; slot = 0; entries = es })) k3) (sym c.new.ensures.items)
             (subst (λ (r : Root). WhereTold (StoreHasSizes (record { root = r; slot = 0; entries = [] })) k3) (sym root_is) (sized_empty config k3 (g.met.D.Disk.reads_fit c.make.new.disk) only));
-        first = ap (λ (r : Root). r.sequence) root_is;
+        root = root_is;
         slot = refl;
         none = c.new.ensures.items;
         cause = search rules;
