@@ -464,8 +464,8 @@ const PAIRS: [Pair; 9] = [
     },
 ];
 
-/// Writes two roots of these sequences, one of each form, to the slots and sets the gates, and returns whether the
-/// wanted slot is read.
+/// Writes two roots of these sequences, one of each form, to the slots and sets the gates, and returns
+/// whether the wanted slot is read.
 fn is_newest<D: Disk>(alloc: Global, disk: &mut D, pair: &Pair) -> Result<bool, RootRefusal> {
     put(
         disk,
