@@ -175,7 +175,7 @@ def shown_of(text):
     number = re.search(rb"^X-Number: ([0-9]+)\n", text, re.M)
     if number:
         return (*AUTHORS[int(number[1]) % len(AUTHORS)][1:], SUBJECTS[int(number[1]) % len(SUBJECTS)][1])
-    plain = re.match(rb"From: Ann <ann@example\.org>\n(?:Date: [^\n]*\n)?Subject: ([ -~]+)\nMessage-ID:", text)
+    plain = re.match(rb"From: Ann <ann@example\.org>\n(?:Date: [^\n]*\n)?Subject: ((?:(?!=\?)[ -~])+)\nMessage-ID:", text)
     return (*AUTHORS[0][1:], plain[1].decode()) if plain else None
 
 
