@@ -1,5 +1,5 @@
 -- What is left while the archive is created, and what is there at the end.
-use Rattle.std.proofs.Common.{refl, rules, sym, ap, subst, List, []}
+use Rattle.std.proofs.Common.{refl, rules, sym, subst, List, []}
 use Rattle.disk_model.specs.Disk.{WhereTold}
 use Rattle.arch_model.specs.Archives.{empty_archive}
 use Rattle.store_finding.specs.declared.entries.StoredEntry.{StoredEntry}
