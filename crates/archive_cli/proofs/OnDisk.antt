@@ -158,7 +158,7 @@ opened-reindexes v cache a content live store lives = (lives, (v, store))
 pub opened-checks : (v : StoreState) (cache : List ℕ) (a : Archive) (content : Option Content) (entries live next : ℕ) → IsStoreWith v cache a content → entries ≡ length v.entries → live ≡ length (live_entries a.entries) → next ≡ v.root.next → ChecksTo cache a (Checked entries live next) content
 opened-checks v cache a None entries live next store count lives following = absurd store
 opened-checks v cache a (Some k) entries live next store count lives following =
-    (count ∙ (ap (λ (es : List StoredEntry). length es) store.keeps.kept ∙ stored-length [] a.entries), lives, following ∙ store.keeps.names.next, (v, store))
+    (count ∙ (ap (λ (es : List StoredEntry). length es) store.keeps.kept ∙ stored-length a.config.form [] a.entries), lives, following ∙ store.keeps.names.next, (v, store))
 
 -- They are those of what was opened.
 pub opened-as : (v : StoreState) (content : Option Content) (entries live next : ℕ) → WhereTold (λ (k : Content). OpensFiles (as_read k) (Ok v)) content → entries ≡ length v.entries → next ≡ v.root.next → WhereTold (λ (k : Content). IsOpenedAs (as_read k) (Checked entries live next)) content

@@ -250,7 +250,7 @@ module _ {D : Type 0} (g : Disk D)
       )
 
   -- An archive was opened, and events were served by a node.
-  pub served-on : RecoversSomeOne → CachesOne → FollowsItself → CommandFollows → (a : Archive) (cache : List ℕ) (old : D) (e : Owning D) (node new : Serving (Owning D)) (arrivals : List Arrival) (stages : List (EventStages (Owning D))) (o p : HostState) → node.keep ≡ e → IsStoreWith e.view cache a (g.content e.disk) → e.views ≡ views_of (live a.entries) → WhereTold IsSettled (g.content e.disk)
+  pub served-on : RecoversSomeOne → CachesOne → FollowsItself → CommandFollows → (a : Archive) (cache : List ℕ) (old : D) (e : Owning D) (node new : Serving (Owning D)) (arrivals : List Arrival) (stages : List (EventStages (Owning D))) (o p : HostState) → node.keep ≡ e → IsStoreWith e.view cache a (g.content e.disk) → e.views ≡ views_of a.config.form (live a.entries) → WhereTold IsSettled (g.content e.disk)
       → SyncsFirst g old e.disk
       → RunsBetween g old e.disk → BothTold WentBetween (g.content old) (g.content e.disk)
       → ((c : ℕ) → (places_in node).session c ≡ None) → node.idling ≡ Nobody → ((t : LastKnown) → MatchesKnown (engine_of g) node.keep t → NodeSuits (engine_of g) t node o → RunsTo (engine_of g) arrivals t node o stages new p) → ReadsWith cache a (g.content old)
