@@ -1,5 +1,5 @@
 //! A control connection to an archive in memory.
-use arch_base::Numbers;
+use arch_base::{Config, Form, Name, Numbers};
 use arch_model::Next;
 use archive_fixtures::in_memory;
 use control_door::Session;
@@ -26,6 +26,20 @@ impl Connection {
     /// Opens a connection to a mirror without messages.
     pub fn to_mirror(alloc: Global) -> Option<Self> {
         Some(Connection::to(alloc, archive_of(alloc, true)?))
+    }
+
+    /// Opens a connection to an archive without messages whose objects have ids of SHA-256.
+    pub fn to_sha_256(alloc: Global) -> Option<Self> {
+        let config = Config {
+            name: Name::read(b"list")?,
+            limit: LIMIT,
+            slice: 50_000,
+            max: MAX,
+            mirror: false,
+            born: 1,
+            form: Form::Sha256,
+        };
+        Some(Connection::to(alloc, MemArchive::new(alloc, config)))
     }
 
     /// Opens a connection to an archive.

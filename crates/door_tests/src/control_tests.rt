@@ -426,6 +426,23 @@ fn a_mirror_takes_no_command(rt: HostRuntime) {
     assert!(rt; mirror_is_answered(rt.alloc()));
 }
 
+/// Returns whether an archive whose objects have ids of SHA-256 answers with ids of 64 digits.
+fn sha_256_is_answered(alloc: Global) -> bool {
+    let Some(mut connection) = Connection::to_sha_256(alloc) else {
+        return false;
+    };
+    connection.hear(b"deliver 22\nMessage-ID: <a@x>\n\nhi\nshow 1\nremove 1\nshow 1\n");
+    connection.was_answered(
+        b"1 ok 1 15bce58c5843a3ca9a1c08c9be703e12d40296e11c477b13180bd883bbc3fd65\ntext 22\nMessage-ID: <a@x>\n\nhi\n1 ok 1 15bce58c5843a3ca9a1c08c9be703e12d40296e11c477b13180bd883bbc3fd65\n7 not live 1\n",
+        Next::Go,
+    )
+}
+
+#[test]
+fn answers_have_the_digits_of_the_archives_form(rt: HostRuntime) {
+    assert!(rt; sha_256_is_answered(rt.alloc()));
+}
+
 /// Lines without their line end, and their orders.
 const ORDERS: [(&[u8], Order); 29] = [
     (b"deliver 0", Order::Deliver(0)),
