@@ -45,7 +45,7 @@ pub tree_first : (c : Commit) (content : List ℕ) → content ≡ commit_conten
 tree_first c content is = is ∙ sym (append_assoc (codes "tree ") (encode_lower (id_bytes c.tree)) (10 ∷ after_tree c))
 
 pub NoByte-tree : (c : Commit) → NoByte 10 (tree_text c)
-NoByte-tree c = NoByte-append 10 (codes "tree ") (encode_lower (id_bytes c.tree)) (λ e. omega (arith, e), (λ e. omega (arith, e), (λ e. omega (arith, e), (λ e. omega (arith, e), (λ e. omega (arith, e), tt))))) (NoByte-hex c.tree)
+NoByte-tree c = NoByte-append 10 (codes "tree ") (encode_lower (id_bytes c.tree)) (λ e. omega (arith, e), (λ e. omega (arith, e), (λ e. omega (arith, e), (λ e. omega (arith, e), (λ e. omega (arith, e), tt))))) (NoByte-hex 10 c.tree (omega arith) (omega arith))
 
 -- No byte of a time zone is a line feed.
 NoByte-clock : (minutes : ℕ) → NoByte 10 (clock minutes [])
@@ -99,7 +99,7 @@ pub parent_there : (bytes id : List ℕ) (found : Option (Bor (List ℕ))) → b
     → (parent : Option ObjectId) (rest : List ℕ) → bytes ≡ parent_line parent (codes "author " ++ rest) → IsLeft found (codes "author " ++ rest)
 parent_there bytes id found here after None rest is = absurd (words_apart bytes id rest here is)
 parent_there bytes id found here after (Some parent) rest is =
-    after (encode_lower (id_bytes parent)) (codes "author " ++ rest) (NoByte-hex parent) (append_cancel_left (codes "parent ") id (hex_line parent (codes "author " ++ rest)) (sym here ∙ is))
+    after (encode_lower (id_bytes parent)) (codes "author " ++ rest) (NoByte-hex 10 parent (omega arith) (omega arith)) (append_cancel_left (codes "parent ") id (hex_line parent (codes "author " ++ rest)) (sym here ∙ is))
 
 -- Where there is none, the author's line comes first.
 pub parent_missing : (bytes : List ℕ) → ((rest : List ℕ) → bytes ≢ codes "parent " ++ rest) → (parent : Option ObjectId) (rest : List ℕ) → bytes ≡ parent_line parent (codes "author " ++ rest)

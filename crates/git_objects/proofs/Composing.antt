@@ -1,5 +1,5 @@
 -- Pieces one after the other.
-use Rattle.std.proofs.Common.{◌≡◌, ◌≢◌, ℕ, List, ◌++◌, cond, Result, Ok, Err, OnOk, is_ok, sym, ap, ◌∙◌}
+use Rattle.std.proofs.Common.{◌≡◌, ◌≢◌, ℕ, List, ◌++◌, cond, Option, Some, None, MatchOption, Result, Ok, Err, OnOk, is_ok, sym, ap, ◌∙◌}
 use Rattle.std.proofs.lemmas.List.{append_cancel_left, append_assoc}
 use Rattle.git_objects.specs.Fronts.{Lacks, Begins, Both, in_turn, led, AppendsPiece}
 
@@ -49,6 +49,13 @@ begins-led valid spell bytes word after v rest e one = record {
   spelled = e ∙ ap (λ l. word ++ l) one.spelled;
   only = λ w more ok is. one.only w more ok (append_cancel_left word after (spell w more) (sym e ∙ is));
 }
+
+-- A word and then a piece or none, by what a reader found after the word.
+pub led-either : {V F : Type 0} (valid : V → Type 0) (spell : V → List ℕ → List ℕ) (bytes word after : List ℕ) (found : Option F) (value : F → V) (rest : F → List ℕ)
+    → bytes ≡ word ++ after → MatchOption found (Lacks valid spell after) (λ f. Begins valid spell after (value f) (rest f))
+    → MatchOption found (Lacks valid (led word spell) bytes) (λ f. Begins valid (led word spell) bytes (value f) (rest f))
+led-either valid spell bytes word after None value rest e none = lacks-led valid spell bytes word after e none
+led-either valid spell bytes word after (Some f) value rest e one = begins-led valid spell bytes word after (value f) (rest f) e one
 
 -- Two pieces appended, one after the other.
 pub appends-both : (old crash_between new : List ℕ) (first second : List ℕ → List ℕ) → AppendsPiece old crash_between first → AppendsPiece crash_between new second → AppendsPiece old new (λ rest. first (second rest))

@@ -33,9 +33,13 @@ zone_sign (negsuc less_one) = 45
 abbrev pub zone_text : ℤ → List ℕ → List ℕ
 zone_text zone rest = zone_sign zone ∷ clock (unsigned_abs zone) rest
 
--- The digits of an id, 40 or 64, and a line feed.
+-- The digits of an id, 40 or 64, and the byte that ends them.
+abbrev pub hex_part : ℕ → ObjectId → List ℕ → List ℕ
+hex_part end id rest = encode_lower (id_bytes id) ++ end ∷ rest
+
+-- The digits of an id and a line feed.
 abbrev pub hex_line : ObjectId → List ℕ → List ℕ
-hex_line id rest = encode_lower (id_bytes id) ++ 10 ∷ rest
+hex_line = hex_part 10
 
 -- The line that names the tree.
 abbrev pub tree_line : ObjectId → List ℕ → List ℕ

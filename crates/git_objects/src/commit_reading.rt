@@ -12,8 +12,8 @@ ghost use Rattle.git_objects.specs.Reading.{ReadsCommit, commit_of};
 
 use crate::clean_text::is_clean;
 use crate::commits::Commit;
-use crate::fronts::{after, before, parted_at, read_number};
-use arch_base::{Bytes, Form, NoMemory, ObjectId, id_of_hex};
+use crate::fronts::{after, before, parted_at, read_id, read_number};
+use arch_base::{Bytes, Form, NoMemory, ObjectId};
 use std::alloc::Global;
 
 /// Returns the commit of a form that a commit's content spells, or `None` for any other content.
@@ -127,7 +127,7 @@ fn read_ids(bytes: &[u8], form: Form) -> Option<(ObjectId, Option<ObjectId>, &[u
         (λ found. Begins (Both (IsObjectId form) (IsParent form)) (in_turn tree_line parent_part) bytes.now
         (found.0, found.1) found.2.now) }
 {
-    let (tree, rest) = read_id(b"tree ", bytes, form)?;
+    let (tree, rest) = read_id_line(b"tree ", bytes, form)?;
     let (parent, rest) = read_parent(rest, form)?;
     Some((tree, parent, rest))
 }
@@ -140,18 +140,17 @@ fn read_parent(bytes: &[u8], form: Form) -> Option<(Option<ObjectId>, &[u8])>
     if let Some(rest) = after(b"author ", bytes) {
         return Some((None, rest));
     }
-    let (id, rest) = read_id(b"parent ", bytes, form)?;
+    let (id, rest) = read_id_line(b"parent ", bytes, form)?;
     Some((Some(id), after(b"author ", rest)?))
 }
 
 /// Reads the id of a form on the line that starts with a word.
-fn read_id<'a>(word: &[u8], bytes: &'a [u8], form: Form) -> Option<(ObjectId, &'a [u8])>
+fn read_id_line<'a>(word: &[u8], bytes: &'a [u8], form: Form) -> Option<(ObjectId, &'a [u8])>
     ensures { MatchOption result (Lacks (IsObjectId form) (led word.now hex_line) bytes.now)
         (λ found. Begins (IsObjectId form) (led word.now hex_line) bytes.now found.0 found.1.now) }
 {
-    let (digits, rest) = parted_at(b'\n', after(word, bytes)?)?;
-    let id = id_of_hex(digits, form)?;
-    Some((id, rest))
+    let digits = after(word, bytes)?;
+    read_id(b'\n', digits, form)
 }
 
 /// Reads the author's name and address, up to the seconds.

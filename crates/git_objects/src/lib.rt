@@ -16,5 +16,6 @@ mod trees;
 pub use commit_reading::{committed_at, read_commit};
 pub use commits::{Commit, commit_bytes};
 pub use entry_kind::EntryKind;
+pub use fronts::{after, parted_at, read_id, read_number};
 pub use objects::{Object, blob_id, object_id, read_object, spellings_stand_apart};
 pub use trees::{TreeBytes, tree_bytes};
