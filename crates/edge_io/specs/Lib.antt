@@ -6,6 +6,8 @@ pub mod MemSinks
 pub mod Events
 pub mod Coming
 pub mod MemClocks
+pub mod Peers
+pub mod MemPeers
 pub mod Scripts
 pub mod Spans
 pub mod Frames

@@ -1,4 +1,4 @@
-//! The outside of the archive: sources and sinks of bytes, clocks, and hosts of connections.
+//! The outside of the archive: sources and sinks of bytes, clocks, hosts of connections, and peers.
 //! Allocates.
 //!
 //! Each has a count of faults, and a version in memory. Here are also words written to a sink, and
@@ -14,9 +14,11 @@ mod host;
 mod marks;
 mod mem_clock;
 mod mem_host;
+mod mem_peer;
 mod mem_sink;
 mod mem_source;
 mod outlets;
+mod peer;
 mod phrase;
 mod reading;
 mod script_host;
@@ -30,8 +32,10 @@ pub use events::{Door, Event, What};
 pub use host::{Host, HostFault};
 pub use mem_clock::MemClock;
 pub use mem_host::MemHost;
+pub use mem_peer::MemPeer;
 pub use mem_sink::MemSink;
 pub use mem_source::MemSource;
+pub use peer::{Peer, PeerRefusal, Reply};
 pub use phrase::{say, say_line};
 pub use reading::{read_in_one_way, script};
 pub use script_host::ScriptHost;
