@@ -1,3 +1,4 @@
+pub mod Adding
 mod Apart
 pub mod Planned
 mod Rewritten

@@ -2,15 +2,19 @@
 use Rattle.std.specs.Prelude.{◌≡◌, ◌⊎◌, ◌+◌, ◌≤◌, ℕ, List, [], ◌∷◌, ◌++◌, replicate}
 use Rattle.arch_base.specs.declared.ids.Form.{Form}
 use Rattle.arch_base.specs.declared.ids.ObjectId.{ObjectId}
-use Rattle.arch_base.specs.Ids.{id_size, id_bytes, id_with, IsObjectId}
+use Rattle.arch_base.specs.Ids.{form_of, id_size, id_bytes, id_with, IsObjectId}
 use Rattle.disk_model.specs.BigEndian.{be32}
-use Rattle.disk_model.specs.Sizes.{greatest_epoch}
+use Rattle.disk_model.specs.Sizes.{greatest_epoch, record_size}
 use Rattle.number_map.specs.declared.line.Record.{Record}
 
 -- The number, the epoch, and the id of the blob: 28 or 40 bytes, by the form of that id, numbers with
 -- the highest byte first.
 unfoldable pub record_bytes : Record → List ℕ
 record_bytes line = be32 line.number ++ be32 line.epoch ++ id_bytes line.blob
+
+-- The size of a record, by the form of its id: 28 or 40.
+abbrev pub size_of_line : Record → ℕ
+size_of_line line = record_size (form_of line.blob)
 
 -- The number's message is in an epoch, one of 0 to 63.
 abbrev pub RecordHasMessage : Record → Type 0

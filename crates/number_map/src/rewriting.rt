@@ -1,18 +1,19 @@
 //! Writes a map anew, without the messages of some numbers.
 //! Writes the disk; syncs.
-ghost use Rattle.std.specs.Prelude.{◌≡◌, ◌≢◌, ◌+◌, ◌*◌, ◌<◌, Err, IfOk, OnOk, OnErr};
+ghost use Rattle.std.specs.Prelude.{◌≡◌, ◌≢◌, ◌+◌, ◌*◌, ◌<◌, Err, length, IfOk, OnOk, OnErr};
+ghost use Rattle.std.specs.List.{flat_map, sum_by};
 ghost use Rattle.arch_base.specs.Counts.{RoseIf};
 ghost use Rattle.disk_model.specs.Beside.{Bounds, RespectsBound, RunsBeside};
 ghost use Rattle.disk_model.specs.Disk.{BothTold};
 ghost use Rattle.root_change.specs.Copying.{OtherFilesStay};
 ghost use Rattle.root_change.specs.Rewriting.{IsPlan, PushesBytes};
-ghost use Rattle.number_map.specs.Records.{record_bytes};
+ghost use Rattle.number_map.specs.Records.{record_bytes, size_of_line};
 ghost use Rattle.number_map.specs.Rewriting.{PlansMap, PushesGone, RewritesMap, RisesUpTo, none_record};
 
 use crate::line::{NO_EPOCH, Record, no_blob};
 use crate::whole::walk;
 use crate::writing::spell;
-use arch_base::{Form, MessageNumbers, NoMemory};
+use arch_base::{Bytes, Form, MessageNumbers, NoMemory};
 use disk_model::{Disk, FileKind, FileName, WalkRefusal, records_size};
 use root_change::{PartPlan, Target, put_sources};
 use std::alloc::Global;
@@ -35,6 +36,33 @@ pub fn push_record(plan: &mut PartPlan, line: &Record) -> Result<(), NoMemory>
     ensures err { OnErr result (plan.new ≡ plan.old) }
 {
     plan.push_bytes(spell(line).as_slice())
+}
+
+/// Returns the bytes of records, one after the other.
+fn spell_all(alloc: Global, lines: &[Record]) -> Result<Bytes, NoMemory>
+    ensures bytes { IfOk result (λ bytes. bytes ≡ flat_map record_bytes lines.now) }
+    ensures size { IfOk result (λ bytes. length bytes ≡ sum_by size_of_line lines.now) }
+{
+    let mut bytes = Bytes::new(alloc);
+    for line in lines {
+        bytes.push_slice(spell(line).as_slice())?;
+    }
+    Ok(bytes)
+}
+
+/// Appends records to a plan, as one piece.
+///
+/// The plan gets a single source for all of them. Allocates room for their bytes, and frees it. So a
+/// map of many records is best planned in pieces of some thousand each. `NoMemory` if an allocation
+/// fails, or if the plan would have 2^62 bytes or more. The plan is then unchanged.
+pub fn push_records(alloc: Global, plan: &mut PartPlan, lines: &[Record]) -> Result<(), NoMemory>
+    ensures ok { OnOk result (PushesBytes plan.old (flat_map record_bytes lines.now) plan.new) }
+    ensures size { OnOk result (length (flat_map record_bytes lines.now) ≡ sum_by size_of_line lines.now) }
+    ensures valid { OnOk result (IsPlan plan.new) }
+    ensures err { OnErr result (plan.new ≡ plan.old) }
+{
+    let bytes = spell_all(alloc, lines)?;
+    plan.push_bytes(bytes.as_slice())
 }
 
 /// Appends the records after the first `done` ones, up to that of a number, to a plan, and then that
