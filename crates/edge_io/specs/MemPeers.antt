@@ -30,8 +30,7 @@ asked_for path s = record s { coming = drop 1 s.coming; asked = s.asked ++ path 
 
 -- The state after a fault, which asked for the path, too.
 abbrev pub failed_get : List ℕ → Peering → Peering
-failed_get path s =
-    record s { coming = drop 1 s.coming; asked = s.asked ++ path ∷ []; faults = raised s.faults }
+failed_get path s = record (asked_for path s) { faults = raised s.faults }
 
 -- The state after a call that ran out of memory, which asked for nothing.
 abbrev pub starved_get : Peering → Peering

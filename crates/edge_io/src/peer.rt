@@ -12,7 +12,9 @@ use thiserror::Error;
 /// What a peer answers to a path: a status of HTTP, and a body.
 #[derive(Debug, Drop)]
 pub struct Reply {
+    /// The status code (RFC 9110, section 15), such as 200.
     pub status: u16,
+    /// The bytes of the body.
     pub body: Bytes,
 }
 
