@@ -8,6 +8,7 @@ mod Zones
 mod Kept
 mod Chains
 mod Showing
+mod Forms
 mod Turning
 mod Bringing
 mod Finding

@@ -19,7 +19,9 @@ use Rattle.disk_model.specs.declared.name.FileName.{FileName}
 use Rattle.disk_model.specs.declared.refusal.WalkRefusal.TheVariants.{Damaged}
 use Rattle.disk_model.specs.Disk.{Kept, Content, WhereTold, BothTold, Unchanged, bytes_of}
 use Rattle.git_objects.specs.Commits.{IsParent}
+use Rattle.epoch_file.specs.Forms.{HaveIdsOf}
 use Rattle.epoch_file.specs.Lying.{LieIn, EntryLiesIn}
+use Rattle.epoch_file.proofs.Forms.{ids_more, read_ids}
 use Rattle.epoch_file.proofs.Fronts.{within}
 use Rattle.epoch_file.proofs.Lying.{lie_more, read_lies}
 use Rattle.epoch_file.proofs.Chains.{length-magic, chain-push, last-push, valid-push, seen-push, epoch-push, length-seen}
@@ -148,11 +150,12 @@ moves-either old window new true inside takes =
     let size : found.1 ≤ length window = omega (arith, r.size, ap length r.is, length-append (bytes_after old.form old.parent r.entry) r.rest) in
     let some : 0 < found.1 = omega (arith, r.size, entry_some old.form old.parent r.entry) in
     let lies : EntryLiesIn old.part.offset (old.part.offset + found.1) found.0 = read_lies old.form old.part.offset old.parent window found r in
-    let Holds : State → Type 0 = λ t. (old.part.offset < t.part.offset) × IsInsidePart t.part t.window × (LieIn 0 old.part.offset old.seen → LieIn 0 t.part.offset t.seen) in
+    let Holds : State → Type 0 = λ t. (old.part.offset < t.part.offset) × IsInsidePart t.part t.window × (LieIn 0 old.part.offset old.seen → LieIn 0 t.part.offset t.seen) × (HaveIdsOf old.form old.seen → HaveIdsOf t.form t.seen) in
     subst Holds (sym takes.2) (
       omega (arith, some),
       omega (arith, size, inside, length-drop found.1 window),
       λ lie. lie_more 0 old.part.offset (old.part.offset + found.1) old.seen found.0 (omega arith) (omega arith) lie lies,
+      λ have. ids_more old.form old.seen found.0 have (read_ids old.form old.part.offset old.parent window found r),
     )
 moves-either old window new false inside takes = ap (λ (s : State). s.part.offset) takes.1
 

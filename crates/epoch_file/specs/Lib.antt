@@ -2,6 +2,7 @@ pub mod Entries
 pub mod Appending
 pub mod Walking
 pub mod Lying
+pub mod Forms
 pub mod Runs
 pub mod Planning
 pub mod Sights

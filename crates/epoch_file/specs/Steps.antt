@@ -12,6 +12,7 @@ use Rattle.epoch_file.specs.declared.entry.Seen.{Seen}
 use Rattle.epoch_file.specs.declared.window.Part.{Part}
 use Rattle.epoch_file.specs.declared.state.State.{State}
 use Rattle.epoch_file.specs.Entries.{EpochEntry, IsEpochEntry, AreEpochEntries, bytes_after, chain, last_of, epoch_of}
+use Rattle.epoch_file.specs.Forms.{HaveIdsOf}
 use Rattle.epoch_file.specs.Lying.{LieIn}
 use Rattle.epoch_file.specs.Reading.{IsEntryRead}
 use Rattle.epoch_file.specs.Walking.{seen_from, LacksEntry, LacksMagic, WalksEpoch}
@@ -81,11 +82,12 @@ pub record SamePart (old new : Part) : Type 0 where
   pub file : new.file ≡ old.file
   pub end : new.end ≡ old.end
 
--- A turn advances in the part if it finds an entry, which lies up to the new offset, and otherwise
--- stays.
+-- A turn advances in the part if it finds an entry, which lies up to the new offset and has ids of
+-- the form, and otherwise stays.
 abbrev pub WalkMoves : State → State → Result Bool WalkRefusal → Type 0
 WalkMoves old new (Ok true) = (old.part.offset < new.part.offset) × IsInsidePart new.part new.window
     × (LieIn 0 old.part.offset old.seen → LieIn 0 new.part.offset new.seen)
+    × (HaveIdsOf old.form old.seen → HaveIdsOf new.form new.seen)
 WalkMoves old new (Ok false) = new.part.offset ≡ old.part.offset
 WalkMoves old new (Err e) = Unit {0}
 

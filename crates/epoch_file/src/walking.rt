@@ -4,6 +4,7 @@ ghost use Rattle.std.specs.Prelude.{◌≡◌, ◌+◌, ◌<◌, ◌≤◌, leng
 ghost use Rattle.arch_base.specs.Counts.{RoseIf};
 ghost use Rattle.disk_model.specs.Disk.{Image, BothTold, WhereTold, Unchanged, bytes_of};
 ghost use Rattle.disk_model.specs.Moments.{LeavesOnly};
+ghost use Rattle.epoch_file.specs.Forms.{HaveIdsOf};
 ghost use Rattle.epoch_file.specs.Lying.{LieIn};
 ghost use Rattle.epoch_file.specs.Walking.{WalksEpoch};
 ghost use Rattle.epoch_file.specs.Runs.{OnlyReads, FaultRose, StopRose};
@@ -40,6 +41,7 @@ pub fn walk<D: Disk>(
         WalksEpoch form length (bytes_of (k file).seen) result) (D.content disk.old) }
     // Also where the disk doesn't tell its content.
     ensures lie { IfOk result (LieIn 0 length) }
+    ensures ids { IfOk result (HaveIdsOf form) }
     ensures same { BothTold Unchanged (D.content disk.old) (D.content disk.new) }
     ensures crash { LeavesOnly D.Disk disk.old disk.new (Image (D.content disk.old)) }
     ensures cause { RoseIf (result ≡ Err WalkRefusal.DiskFault) (D.faults disk.old) (D.faults disk.new) }
@@ -147,7 +149,9 @@ fn go_on<D: Disk>(
     requires inside { IsInsidePart start.part start.window }
     requires end { start.part.end ≤ count }
     requires lie { LieIn 0 start.part.offset start.seen }
+    requires ids { HaveIdsOf start.form start.seen }
     ensures lie { IfOk result (LieIn 0 count) }
+    ensures ids { IfOk result (HaveIdsOf start.form) }
     ensures walked { WhereTold (λ k.
         WalkGoesOn count (bytes_of (k start.part.file).seen) start result) (D.content disk.old) }
     ensures reads { OnlyReads D.Disk disk.old disk.new }

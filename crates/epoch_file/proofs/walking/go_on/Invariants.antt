@@ -1,6 +1,7 @@
 use Rattle.std.proofs.Common.{◌≡◌, ◌-◌, ◌≤◌, length}
 use Rattle.disk_model.specs.Disk.{WhereTold}
 use Rattle.epoch_file.specs.Runs.{OnlyReads}
+use Rattle.epoch_file.specs.Forms.{HaveIdsOf}
 use Rattle.epoch_file.specs.Lying.{LieIn}
 use Rattle.epoch_file.specs.Steps.{KeepsWalked, SamePart}
 use Rattle.epoch_file.specs.Windows.{IsInsidePart}
@@ -12,6 +13,7 @@ invariant-loop-alloc g l = record {
   part : SamePart l.fn.start.part l.state.part;
   form : l.state.form ≡ l.fn.start.form;
   lie : LieIn 0 l.state.part.offset l.state.seen;
+  ids : HaveIdsOf l.state.form l.state.seen;
   inside : IsInsidePart l.state.part l.state.window;
   room : 8 ≤ length l.piece;
   reads : OnlyReads g.D.Disk l.fn.disk l.disk;
