@@ -1,5 +1,6 @@
 pub mod Damage
 pub mod Extents
+pub mod StoredIds
 pub mod Files
 pub mod Finding
 pub mod Indexes

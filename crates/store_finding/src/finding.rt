@@ -7,6 +7,7 @@ ghost use Rattle.disk_model.specs.Moments.{LeavesOnly};
 ghost use Rattle.disk_model.specs.Sizes.{epoch_count, greatest_epoch};
 ghost use Rattle.arch_model.specs.declared.opening.OpenRefusal.{OpenRefusal};
 ghost use Rattle.number_map.specs.Records.{AreRecordsFrom};
+ghost use Rattle.epoch_file.specs.Forms.{HaveIdsOf};
 ghost use Rattle.epoch_file.specs.Lying.{LieIn};
 ghost use Rattle.epoch_file.specs.Runs.{OnlyReads};
 ghost use Rattle.root_slots.specs.RootName.{root_name};
@@ -16,6 +17,7 @@ ghost use Rattle.store_finding.specs.Extents.{AreNamed};
 ghost use Rattle.store_finding.specs.Files.{as_read, epoch_file_of};
 ghost use Rattle.store_finding.specs.Indexes.{IndexesStored};
 ghost use Rattle.store_finding.specs.Joined.{AreBefore};
+ghost use Rattle.store_finding.specs.StoredIds.{AreOfForm};
 ghost use Rattle.store_finding.specs.Finding.{FindsStore, FindsRoot, FindsRecords, FindsEntries, KeepsBy, EndsWith, ReadsEach, ReadsEpoch, ReadsSeen, StopsEpoch, StopsSeen};
 
 use crate::entries::StoredEntry;
@@ -135,6 +137,8 @@ fn take<D: Disk>(
     ensures below { IfOk result (λ joined. AreBefore (epoch + 1) joined.entries) }
     ensures named { LieIn 0 (named_length root.now epoch) seen → AreNamed root.now joining.entries
         → IfOk result (λ joined. AreNamed root.now joined.entries) }
+    ensures ids { HaveIdsOf root.now.config.form seen → AreOfForm root.now.config.form joining.entries
+        → IfOk result (λ joined. AreOfForm root.now.config.form joined.entries) }
     ensures reads { OnlyReads D.Disk disk.old disk.new }
     ensures fault { result ≡ Err OpenRefusal.DiskFault
         → Rose (D.faults disk.old) (D.faults disk.new) }
@@ -236,6 +240,8 @@ fn join_epoch<D: Disk>(
     ensures below { IfOk result (λ joined. AreBefore (epoch + 1) joined.entries) }
     ensures named { AreNamed root.now joining.entries
         → IfOk result (λ joined. AreNamed root.now joined.entries) }
+    ensures ids { AreOfForm root.now.config.form joining.entries
+        → IfOk result (λ joined. AreOfForm root.now.config.form joined.entries) }
     ensures reads { OnlyReads D.Disk disk.old disk.new }
     ensures fault { result ≡ Err OpenRefusal.DiskFault
         → Rose (D.faults disk.old) (D.faults disk.new) }
@@ -267,6 +273,8 @@ fn join_all<D: Disk>(
     ensures below { IfOk result (λ joined. AreBefore epoch_count joined.entries) }
     ensures named { AreNamed root.now joining.entries
         → IfOk result (λ joined. AreNamed root.now joined.entries) }
+    ensures ids { AreOfForm root.now.config.form joining.entries
+        → IfOk result (λ joined. AreOfForm root.now.config.form joined.entries) }
     ensures reads { OnlyReads D.Disk disk.old disk.new }
     ensures fault { result ≡ Err OpenRefusal.DiskFault
         → Rose (D.faults disk.old) (D.faults disk.new) }
@@ -311,6 +319,7 @@ fn read_epochs<D: Disk>(
         KeepsBy root.now records.now result (as_read k)) (D.content disk.old) }
     ensures small { IfOk result (λ kept. AreBefore epoch_count kept) }
     ensures named { IfOk result (AreNamed root.now) }
+    ensures ids { IfOk result (AreOfForm root.now.config.form) }
     ensures reads { OnlyReads D.Disk disk.old disk.new }
     ensures fault { result ≡ Err OpenRefusal.DiskFault
         → Rose (D.faults disk.old) (D.faults disk.new) }
@@ -336,6 +345,7 @@ fn find_entries<D: Disk>(
     ensures found { WhereTold (λ k. FindsEntries root.now (as_read k) result) (D.content disk.old) }
     ensures small { IfOk result (λ kept. AreBefore epoch_count kept) }
     ensures named { IfOk result (AreNamed root.now) }
+    ensures ids { IfOk result (AreOfForm root.now.config.form) }
     ensures reads { OnlyReads D.Disk disk.old disk.new }
     ensures fault { result ≡ Err OpenRefusal.DiskFault
         → Rose (D.faults disk.old) (D.faults disk.new) }
@@ -358,10 +368,11 @@ fn find_entries<D: Disk>(
 pub fn find<D: Disk>(alloc: Global, disk: &mut D) -> Result<Found, OpenRefusal>
     ensures found { WhereTold (λ k. FindsStore (as_read k) result) (D.content disk.old) }
     // Whatever the disk tells, the result has a root, and entries of epochs 0 to 63 in the bytes
-    // that it names.
+    // that it names, with ids of its form.
     ensures root { IfOk result (λ found. IsRoot found.root) }
     ensures epochs { IfOk result (λ found. AreBefore epoch_count found.entries.items) }
     ensures named { IfOk result (λ found. AreNamed found.root found.entries.items) }
+    ensures ids { IfOk result (λ found. AreOfForm found.root.config.form found.entries.items) }
     ensures indexed { IfOk result (λ found. IndexesStored found.entries.items found.index) }
     ensures same { BothTold Unchanged (D.content disk.old) (D.content disk.new) }
     ensures crash { LeavesOnly D.Disk disk.old disk.new (Image (D.content disk.old)) }

@@ -10,9 +10,11 @@ ghost use Rattle.store_finding.specs.Extents.{AreNamed};
 ghost use Rattle.git_objects.specs.declared.entry_kind.EntryKind.TheVariants.{Message, Deletion};
 ghost use Rattle.number_map.specs.Records.{AreRecordsFrom};
 ghost use Rattle.number_map.specs.declared.line.Record.{Record};
+ghost use Rattle.epoch_file.specs.Forms.{HaveIdsOf};
 ghost use Rattle.epoch_file.specs.Lying.{LieIn};
 ghost use Rattle.epoch_file.specs.Runs.{OnlyReads};
 ghost use Rattle.store_finding.specs.Files.{as_read, epoch_file_of};
+ghost use Rattle.store_finding.specs.StoredIds.{AreOfForm};
 ghost use Rattle.store_finding.specs.Joined.{OfJoined, Wants, IsGrown, IsMessageOf, IsRecorded, IsWantedRecord, EndedBy, JoinsOne, AreBefore, ComparesText, JoinsByText, TakesEpoch, FinishesJoin, TextIn, places_with, with_seen};
 ghost use Rattle.store_finding.specs.declared.join_refusal.JoinRefusal.{JoinRefusal};
 
@@ -286,6 +288,8 @@ impl Joining {
         ensures below { IfOk result (λ joining. AreBefore (epoch + 1) joining.entries) }
         ensures named { LieIn 0 (named_length root.now epoch) seen → AreNamed root.now self.entries
             → IfOk result (λ joining. AreNamed root.now joining.entries) }
+        ensures ids { HaveIdsOf root.now.config.form seen → AreOfForm root.now.config.form self.entries
+            → IfOk result (λ joining. AreOfForm root.now.config.form joining.entries) }
         ensures reads { OnlyReads D.Disk disk.old disk.new }
         ensures fault { result ≡ Err JoinRefusal.DiskFault
             → Rose (D.faults disk.old) (D.faults disk.new) }

@@ -13,6 +13,7 @@ loop-epoch-preserved g c =
     record {
       before = c.in-Ok.ensures.below;
       named = λ are. c.in-Ok.ensures.named (inv.named are);
+      ids = λ are. c.in-Ok.ensures.ids (inv.ids are);
       up = where_both _ _ _ _ _ inv.reads.same inv.up c.in-Ok.ensures.joined (λ k so_far reads rs fits none. reads rs fits (so_far rs fits none));
       reads = reads_both g.D.Disk c.args.disk.now c.loop-epoch.disk c.join_epoch.new.disk inv.reads c.in-Ok.ensures.reads;
       kept = c.in-Ok.ensures.steady (λ no. absurd (cc no)) ∙ inv.kept;

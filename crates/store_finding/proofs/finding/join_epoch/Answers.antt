@@ -31,3 +31,6 @@ returns-in-Err-Damaged-clause-joined g c =
 
 pub returns-in-Ok-clause-named : goal.returns-in-Ok-clause-named
 returns-in-Ok-clause-named g c = λ are. c.take.ensures.named (subst (λ (n : ℕ). LieIn 0 n c.in-Ok.seen) (ap (λ (p : Place). p.length) c.named_place-length.ensures) c.in-Ok.ensures.lie) are
+
+pub returns-in-Ok-clause-ids : goal.returns-in-Ok-clause-ids
+returns-in-Ok-clause-ids g c = λ are. c.take.ensures.ids c.in-Ok.ensures.ids are

@@ -3,12 +3,14 @@ use Rattle.std.proofs.Common.{◌<◌, ◌+◌, ◌∙◌, ◌∷◌, sym, ap, s
 use Rattle.std.proofs.lemmas.List.{nil_from_length}
 use Rattle.std.specs.Vec.Iter.{into_iter_items}
 use Rattle.store_finding.specs.declared.entries.StoredEntry.{StoredEntry}
+use Rattle.epoch_file.specs.Forms.{HasIdsOf, HaveIdsOf}
 use Rattle.epoch_file.specs.Lying.{LieIn, tree_end}
 use Rattle.store_finding.specs.Damage.{named_length}
 use Rattle.store_finding.specs.Joined.{JoinedEntries, JoinsByText, TakesEpoch}
+use Rattle.store_finding.specs.StoredIds.{AreOfForm}
 use Rattle.arch_model.proofs.ValidArchives.{all_weaker}
 use Rattle.store_finding.proofs.FindingTold.{told_any, told_so, told_both, reads_none, reads_both}
-use Rattle.store_finding.proofs.Extents.{AreJoinedTo, joined_more, joined_none}
+use Rattle.store_finding.proofs.Extents.{AreJoinedTo, all_more, joined_more, joined_none}
 use Rattle.store_finding.proofs.Comparing.{Come, come_first, come_more, come_stops, come_all}
 use Rattle.store_finding.proofs.joining.Joining.take_epoch.Goals as goal
 
@@ -17,6 +19,7 @@ loop-entry-init g c = record {
   before = all_weaker (λ (e : StoredEntry). e.epoch < c.args.epoch) (λ (e : StoredEntry). e.epoch < c.args.epoch + 1) c.args.self.entries (λ e less. omega (arith, less)) c.requires.before;
   named = λ lie are.
       (0, subst (LieIn 0 (named_length c.args.root.now c.args.epoch)) (sym (c.into_iter-entry-iterator.ensures.into_iter_gives.0 ∙ c.into_vec-entry-items.ensures)) lie, joined_none c.args.epoch (named_length c.args.root.now) c.args.self.entries c.requires.before are);
+  ids = λ have are. (subst (HaveIdsOf c.args.root.now.config.form) (sym (c.into_iter-entry-iterator.ensures.into_iter_gives.0 ∙ c.into_vec-entry-items.ensures)) have, are);
   come = told_any (Come c.args.root.now c.args.self c.args.epoch c.args.seen c.args.self (into_iter_items c.into_iter-entry-iterator.result)) (g.D.Disk.content c.args.disk.now)
       (λ files. come_first c.args.root.now c.args.self c.args.epoch c.args.seen (into_iter_items c.into_iter-entry-iterator.result) files c.requires.before (c.into_iter-entry-iterator.ensures.into_iter_gives.0 ∙ c.into_vec-entry-items.ensures));
   reads = reads_none g.D.Disk c.args.disk.now (λ image. g.met.D.Disk.only_now c.args.disk.now image);
@@ -53,6 +56,13 @@ loop-entry-preserved g c =
           let grown = c.in-Ok.ensures.grown in
           let entries = ap (λ (j : JoinedEntries). j.entries) grown.1 in
           (tree_end c.in-Some.entry, lie_so.1, subst (AreJoinedTo epoch (tree_end c.in-Some.entry) (named_length root)) (sym entries) (joined_more most epoch so.0 (named_length root) now.entries grown.0 c.in-Some.entry after refl lie_so so.2));
+      ids = λ have are.
+          let form = root.config.form in
+          let so = inv.ids have are in
+          let rest : HaveIdsOf form (c.in-Some.entry ∷ after) = subst (HaveIdsOf form) c.in-Some.ensures.steps.0 so.0 in
+          let grown = c.in-Ok.ensures.grown in
+          let entries = ap (λ (j : JoinedEntries). j.entries) grown.1 in
+          (rest.1, subst (AreOfForm form) (sym entries) (all_more (λ (e : StoredEntry). HasIdsOf form e.seen) now.entries (record { number = grown.0; epoch = epoch; seen = c.in-Some.entry }) so.1 rest.0));
       come = told_both (Come root c.args.self epoch c.args.seen now items) (JoinsByText root now epoch c.in-Some.entry (Ok next)) (Come root c.args.self epoch c.args.seen next after)
           (g.D.Disk.content c.args.disk.now) (g.D.Disk.content c.loop-entry.disk) inv.reads.same inv.come c.in-Ok.ensures.joined
           (λ files so_far joins. come_more root c.args.self epoch c.args.seen now next items c.in-Some.entry after files c.requires.small c.in-Some.ensures.steps.0 so_far joins);
@@ -71,3 +81,6 @@ returns-clause-taken g c =
 
 pub returns-clause-named : goal.returns-clause-named
 returns-clause-named g c = λ lie are. (c.loop-entry.invariant.named lie are).2.are
+
+pub returns-clause-ids : goal.returns-clause-ids
+returns-clause-ids g c = λ have are. (c.loop-entry.invariant.ids have are).1
