@@ -2,9 +2,10 @@
 ghost use Rattle.std.specs.Prelude.{◌≤◌};
 
 use crate::file_names::M;
-use arch_base::{Form, Numbers, ObjectId};
-use disk_model::{Disk, DiskFault, FuseDisk, MemDisk, WalkRefusal, records_size};
-use number_map::{Record, Records, append, law_of_records, walk};
+use arch_base::{Form, NoMemory, Numbers, ObjectId};
+use disk_model::{Disk, DiskFault, FileKind, FuseDisk, MemDisk, WalkRefusal, records_size};
+use number_map::{Record, Records, append, law_of_records, push_records, walk};
+use root_change::{PartPlan, Target};
 use std::alloc::Global;
 use std::process::Abort;
 use std::test::Fail;
@@ -505,6 +506,22 @@ fn is_read_in_seven_calls(alloc: Global, passes: u64) -> bool {
 fn a_call_that_fails_is_no_answer(rt: HostRuntime) -> Result<(), Fail> {
     for passes in 0..8 {
         assert!(rt; is_read_in_seven_calls(rt.alloc(), passes), "{passes}");
+    }
+    Ok(())
+}
+
+/// Appends the three records of a form to a plan as one piece, and returns whether that has just their
+/// bytes.
+fn pushes_piece(alloc: Global, form: Form) -> Result<bool, NoMemory> {
+    let mut plan = PartPlan::new(alloc, FileKind::Map, 0, Target::Anew);
+    push_records(alloc, &mut plan, lines_of(form))?;
+    Ok(plan.sources().len() == 1 && plan.bytes() == bytes_of(form))
+}
+
+#[test]
+fn records_are_one_source_of_a_plan(rt: HostRuntime) -> Result<(), Fail> {
+    for form in FORMS {
+        assert!(rt; pushes_piece(rt.alloc(), form)?, "{form:?}");
     }
     Ok(())
 }
