@@ -1,0 +1,11 @@
+pub mod Among
+pub mod Fewer
+pub mod LineParts
+pub mod Taking
+pub mod Following
+pub mod Texts
+pub mod Meeting
+pub mod Stopping
+pub mod Spelling
+pub mod Archives
+pub mod Telling
