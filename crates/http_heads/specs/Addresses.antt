@@ -3,10 +3,11 @@ use Rattle.std.specs.Prelude.{ℕ, Bool, ◌&&◌, ◌==◌, List, [], ◌∷◌
 use Rattle.std.specs.Str.{bytes_eq}
 use Rattle.percent_encoding.specs.Percent.{percent_decode}
 use Rattle.http_heads.specs.declared.address.Address.{Address}
-use Rattle.http_heads.specs.declared.address.Address.TheVariants.{Listing, Text, Thread, Message, Feed, Mailbox, ThreadFeed, ThreadMailbox}
+use Rattle.http_heads.specs.declared.address.Address.TheVariants.{Listing, Text, Thread, Message, Feed, Mailbox, ThreadFeed, ThreadMailbox, Entries, Blob}
 use Rattle.http_heads.specs.Pieces.{pieces_of}
 
--- What a path names. The bytes are those of an id without its brackets.
+-- What a path names. The bytes are those of a message's id without its brackets, or the digits of a
+-- blob's id.
 pub data Named : Type 0 where
   TheListing : Named
   TextOf : List ℕ → Named
@@ -16,8 +17,10 @@ pub data Named : Type 0 where
   TheMailbox : Named
   ThreadFeedOf : List ℕ → Named
   ThreadMailboxOf : List ℕ → Named
+  TheEntries : Named
+  BlobOf : List ℕ → Named
 
--- What an address names, by the bytes of its id.
+-- What an address names, by the bytes in it.
 abbrev pub shown : Address → Named
 shown Listing = TheListing
 shown (Text id) = TextOf id.now
@@ -27,6 +30,8 @@ shown Feed = TheFeed
 shown Mailbox = TheMailbox
 shown (ThreadFeed id) = ThreadFeedOf id.now
 shown (ThreadMailbox id) = ThreadMailboxOf id.now
+shown Entries = TheEntries
+shown (Blob digits) = BlobOf digits.now
 
 -- The segments of a path: its pieces between slashes, each decoded.
 abbrev pub segments_of : List ℕ → List (List ℕ)
@@ -55,10 +60,10 @@ thread_form a b =
     else if is_word b (codes "t.mbox") then Some (ThreadMailboxOf a)
     else None
 
--- After the name stand two segments. What is below `_` isn't served yet.
+-- After the name stand two segments.
 abbrev pub two_segments : List ℕ → List ℕ → Option Named
 two_segments a b =
-    if is_word a (codes "_") then None
+    if is_word a (codes "_") && is_word b (codes "list") then Some TheEntries
     else if is_empty b then Some (MessageOf a)
     else if is_word b (codes "raw") then Some (TextOf a)
     else thread_form a b
@@ -66,7 +71,7 @@ two_segments a b =
 -- After the name stand three segments.
 abbrev pub three_segments : List ℕ → List ℕ → List ℕ → Option Named
 three_segments a b c =
-    if is_word a (codes "_") then None
+    if is_word a (codes "_") && is_word b (codes "blob") then Some (BlobOf c)
     else if is_word b (codes "t") && is_empty c then Some (ThreadOf a)
     else None
 
@@ -75,7 +80,8 @@ abbrev pub is_ours : List ℕ → List ℕ → List ℕ → Bool
 is_ours name first second = is_empty first && is_word second name
 
 -- What a path names, by its segments: `/NAME/`, `/NAME/new.atom`, `/NAME/all.mbox`, `/NAME/ID` with
--- a slash after it or not, `/NAME/ID/raw`, `/NAME/ID/t/`, `/NAME/ID/t.atom` and `/NAME/ID/t.mbox`.
+-- a slash after it or not, `/NAME/ID/raw`, `/NAME/ID/t/`, `/NAME/ID/t.atom`, `/NAME/ID/t.mbox`,
+-- `/NAME/_/list` and `/NAME/_/blob/HEX`.
 abbrev pub named_by : List ℕ → List (List ℕ) → Option Named
 named_by name (first ∷ second ∷ a ∷ []) = if is_ours name first second then one_segment a else None
 named_by name (first ∷ second ∷ a ∷ b ∷ []) = if is_ours name first second then two_segments a b else None

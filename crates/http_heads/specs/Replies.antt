@@ -5,7 +5,7 @@ use Rattle.std.specs.Str.{bytes_eq}
 use Rattle.http_heads.specs.declared.reply.Status.{Status}
 use Rattle.http_heads.specs.declared.reply.Status.TheVariants.{Done, BadRequest, NotFound, MethodNotAllowed, TooManyRequests, HeadTooLarge, ServerError, Unavailable}
 use Rattle.http_heads.specs.declared.reply.Body.{Body}
-use Rattle.http_heads.specs.declared.reply.Body.TheVariants.{Page, Text, Words, Feed, Mailbox}
+use Rattle.http_heads.specs.declared.reply.Body.TheVariants.{Page, Text, Words, Feed, Mailbox, Entries, Blob}
 use Rattle.http_heads.specs.declared.reply.Verdict.{Verdict}
 use Rattle.http_heads.specs.declared.reply.Verdict.TheVariants.{Serve, Refuse}
 use Rattle.http_heads.specs.Dates.{reply_date}
@@ -29,6 +29,8 @@ media_type Text = codes "text/plain"
 media_type Words = codes "text/plain; charset=utf-8"
 media_type Feed = codes "application/atom+xml; charset=utf-8"
 media_type Mailbox = codes "application/mbox"
+media_type Entries = codes "text/plain"
+media_type Blob = codes "application/octet-stream"
 
 -- The end of a line.
 abbrev pub line_end : List ℕ

@@ -9,7 +9,8 @@ use arch_base::{Bytes, NoMemory, Texts};
 use percent_encoding::percent_decode;
 use std::alloc::Global;
 
-/// What a path names. The bytes are those of a message's id without its brackets.
+/// What a path names. The bytes are those of a message's id without its brackets, or the digits of a
+/// blob's id.
 #[derive(Clone, Copy, Drop)]
 pub enum Address<'a> {
     /// The page of the listing.
@@ -28,6 +29,10 @@ pub enum Address<'a> {
     ThreadFeed(&'a [u8]),
     /// The mailbox file of a thread.
     ThreadMailbox(&'a [u8]),
+    /// The list of all entries, which a mirror reads.
+    Entries,
+    /// The text of a blob.
+    Blob(&'a [u8]),
 }
 
 /// Returns the segments of a path: its pieces between slashes, each with its escapes decoded.
@@ -95,8 +100,8 @@ fn one_segment(a: &[u8]) -> Option<Address<'_>>
 fn two_segments<'a>(a: &'a [u8], b: &[u8]) -> Option<Address<'a>>
     ensures { option_map shown result ≡ two a.now b.now }
 {
-    if a == b"_".as_slice() {
-        None
+    if a == b"_".as_slice() && b == b"list".as_slice() {
+        Some(Address::Entries)
     } else if b.is_empty() {
         Some(Address::Message(a))
     } else if b == b"raw".as_slice() {
@@ -120,11 +125,11 @@ fn of_thread<'a>(a: &'a [u8], b: &[u8]) -> Option<Address<'a>>
 }
 
 /// Returns what a path with three segments after the name names.
-fn three_segments<'a>(a: &'a [u8], b: &[u8], c: &[u8]) -> Option<Address<'a>>
+fn three_segments<'a>(a: &'a [u8], b: &[u8], c: &'a [u8]) -> Option<Address<'a>>
     ensures { option_map shown result ≡ three a.now b.now c.now }
 {
-    if a == b"_".as_slice() {
-        None
+    if a == b"_".as_slice() && b == b"blob".as_slice() {
+        Some(Address::Blob(c))
     } else if b == b"t".as_slice() && c.is_empty() {
         Some(Address::Thread(a))
     } else {

@@ -44,6 +44,10 @@ pub enum Body {
     Feed,
     /// A mailbox file.
     Mailbox,
+    /// The list of an archive's entries.
+    Entries,
+    /// The text of a blob.
+    Blob,
 }
 
 /// What becomes of a head.
@@ -110,6 +114,8 @@ impl Body {
             Body::Words => b"text/plain; charset=utf-8",
             Body::Feed => b"application/atom+xml; charset=utf-8",
             Body::Mailbox => b"application/mbox",
+            Body::Entries => b"text/plain",
+            Body::Blob => b"application/octet-stream",
         }
     }
 }

@@ -253,7 +253,7 @@ fn reply(
 }
 
 /// The heads of replies.
-const REPLIES: [(Status, u64, Body, u128, bool, &[u8]); 9] = [
+const REPLIES: [(Status, u64, Body, u128, bool, &[u8]); 11] = [
     (
         Status::Done,
         1_706_781_700,
@@ -269,6 +269,22 @@ const REPLIES: [(Status, u64, Body, u128, bool, &[u8]); 9] = [
         103,
         true,
         b"HTTP/1.1 200 OK\r\nDate: Thu, 29 Feb 2024 23:59:59 GMT\r\nContent-Type: text/plain\r\nContent-Length: 103\r\nConnection: close\r\n\r\n",
+    ),
+    (
+        Status::Done,
+        1_706_781_700,
+        Body::Entries,
+        126,
+        false,
+        b"HTTP/1.1 200 OK\r\nDate: Thu, 01 Feb 2024 10:01:40 GMT\r\nContent-Type: text/plain\r\nContent-Length: 126\r\n\r\n",
+    ),
+    (
+        Status::Done,
+        0,
+        Body::Blob,
+        0,
+        true,
+        b"HTTP/1.1 200 OK\r\nDate: Thu, 01 Jan 1970 00:00:00 GMT\r\nContent-Type: application/octet-stream\r\nContent-Length: 0\r\nConnection: close\r\n\r\n",
     ),
     (
         Status::MethodNotAllowed,

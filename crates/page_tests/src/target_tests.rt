@@ -3,7 +3,7 @@ use arch_base::Bytes;
 use http_heads::{Address, address_of, parameter, segments, skip_of, split_target};
 use std::alloc::Global;
 
-/// What a path may name, with the id in it.
+/// What a path may name, with the id or the digits in it.
 #[derive(Clone, Copy, PartialEq, Eq, Drop)]
 enum Kind {
     Nothing,
@@ -15,10 +15,12 @@ enum Kind {
     Mailbox,
     ThreadFeed,
     ThreadMailbox,
+    Entries,
+    Blob,
 }
 
 /// Targets, and what they name in an archive with the name `list`.
-const NAMED: [(&[u8], Kind, &[u8]); 45] = [
+const NAMED: [(&[u8], Kind, &[u8]); 57] = [
     (b"/list/", Kind::Listing, b""),
     (b"/list/?o=200", Kind::Listing, b""),
     (b"/list/a@x", Kind::Message, b"a@x"),
@@ -54,19 +56,31 @@ const NAMED: [(&[u8], Kind, &[u8]); 45] = [
     (b"/list/a@x/t.atom", Kind::ThreadFeed, b"a@x"),
     (b"/list/a%2Fb/t.%6Dbox", Kind::ThreadMailbox, b"a/b"),
     (b"/list/new.atom/t.atom", Kind::ThreadFeed, b"new.atom"),
-    (b"/list/_/t.atom", Kind::Nothing, b""),
-    (b"/list/_/t.mbox", Kind::Nothing, b""),
+    (b"/list/_/t.atom", Kind::ThreadFeed, b"_"),
+    (b"/list/_/t.mbox", Kind::ThreadMailbox, b"_"),
     (b"/list/a@x/T.atom", Kind::Nothing, b""),
     (b"/list/a@x/t.atom/", Kind::Nothing, b""),
-    (b"/list/_/", Kind::Nothing, b""),
-    (b"/list/%5F/list", Kind::Nothing, b""),
-    (b"/list/_/t/", Kind::Nothing, b""),
+    (b"/list/_/", Kind::Message, b"_"),
+    (b"/list/_/raw", Kind::Text, b"_"),
+    (b"/list/_/t/", Kind::Thread, b"_"),
+    (b"/list/_/list", Kind::Entries, b""),
+    (b"/list/%5F/l%69st?o=1", Kind::Entries, b""),
+    (b"/list/_/List", Kind::Nothing, b""),
+    (b"/list/_/list/", Kind::Nothing, b""),
+    (b"/list/__/list", Kind::Nothing, b""),
+    (b"/list/a@x/list", Kind::Nothing, b""),
+    (b"/list/_/blob/0f", Kind::Blob, b"0f"),
+    (b"/list/_/%62lob/%30F?x", Kind::Blob, b"0F"),
+    (b"/list/_/blob/", Kind::Blob, b""),
+    (b"/list/_/blob", Kind::Nothing, b""),
+    (b"/list/_/blob/0f/", Kind::Nothing, b""),
+    (b"/list/a@x/blob/0f", Kind::Nothing, b""),
     (b"/list/a@x/t", Kind::Nothing, b""),
     (b"/list/a@x/raw/", Kind::Nothing, b""),
     (b"/list/a@x/t//", Kind::Nothing, b""),
 ];
 
-/// Returns whether an address is of a kind, and has an id.
+/// Returns whether an address is of a kind, and has an id or digits.
 fn is_address(found: Option<Address<'_>>, kind: Kind, id: &[u8]) -> bool {
     match found {
         None => kind == Kind::Nothing,
@@ -78,6 +92,8 @@ fn is_address(found: Option<Address<'_>>, kind: Kind, id: &[u8]) -> bool {
         Some(Address::Mailbox) => kind == Kind::Mailbox,
         Some(Address::ThreadFeed(named)) => kind == Kind::ThreadFeed && named == id,
         Some(Address::ThreadMailbox(named)) => kind == Kind::ThreadMailbox && named == id,
+        Some(Address::Entries) => kind == Kind::Entries,
+        Some(Address::Blob(digits)) => kind == Kind::Blob && digits == id,
     }
 }
 
