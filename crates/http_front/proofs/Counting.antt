@@ -8,14 +8,14 @@ use Rattle.arch_model.specs.Archives.{Entry, Archive, text_of}
 use Rattle.arch_model.specs.Shelves.{ReadsOnce, ReadsUpTo, ReadsAhead}
 use Rattle.arch_model.specs.declared.text_refusal.TextRefusal.{TextRefusal}
 use Rattle.mail_forms.specs.declared.row.Row.{Row}
-use Rattle.http_heads.specs.Addresses.{Named, TheListing, TextOf, ThreadOf, MessageOf, TheFeed, TheMailbox, ThreadFeedOf, ThreadMailboxOf, named_by, segments_of}
+use Rattle.http_heads.specs.Addresses.{Named, TheListing, TextOf, ThreadOf, MessageOf, TheFeed, TheMailbox, ThreadFeedOf, ThreadMailboxOf, TheEntries, BlobOf, named_by, segments_of}
 use Rattle.http_heads.specs.Heads.{Asked}
 use Rattle.http_heads.specs.Parameters.{path_of}
 use Rattle.http_heads.specs.Replies.{verdict_of}
 use Rattle.http_heads.specs.declared.reply.Verdict.{Verdict}
 use Rattle.http_heads.specs.declared.reply.Verdict.TheVariants.{Serve, Refuse}
 use Rattle.http_front.specs.Fronts.{HeadFront, Whole, Long, Partial, front, head_limit}
-use Rattle.http_front.specs.Asking.{Found, Gives, Streams, Missing, BadRange, message_found, text_found, target_found, target_reads, path_reads, path_texts}
+use Rattle.http_front.specs.Asking.{Found, Gives, Streams, Missing, BadRange, message_found, text_found, blob_found, target_found, target_reads, path_reads, path_texts}
 use Rattle.http_front.specs.Counting.{served_texts, body_texts, path_said, verdict_texts, head_texts, reads_nothing, goes_on, verdict_goes_on, asked_at, asked_from, all_asked, texts_for_bytes, bytes_read_nothing}
 use Rattle.http_front.specs.Door.{served, said_found, said_verdict, said_head}
 use Rattle.http_front.specs.Sessions.{IsHeldFor, FindsTarget, MakesPage, PageActReads, unread}
@@ -142,6 +142,10 @@ message-whole a None text = refl
 message-whole a (Some row) None = refl
 message-whole a (Some row) (Some text) = refl
 
+pub blob-whole : (text : Option (List ℕ)) → is_whole_body (blob_found text) ≡ true
+blob-whole None = refl
+blob-whole (Some text) = refl
+
 pub text-whole : (text : Option (List ℕ)) → is_whole_body (text_found text) ≡ true
 text-whole None = refl
 text-whole (Some text) = refl
@@ -242,6 +246,8 @@ named-quiet a (Some TheFeed) quiet = absurd (cc quiet)
 named-quiet a (Some (ThreadFeedOf id)) quiet = absurd (cc quiet)
 named-quiet a (Some TheMailbox) quiet = absurd (cc quiet)
 named-quiet a (Some (ThreadMailboxOf id)) quiet = absurd (cc quiet)
+named-quiet a (Some TheEntries) quiet = (refl, refl)
+named-quiet a (Some (BlobOf digits)) quiet = absurd (cc quiet)
 
 body-none : (sends : Bool) (count : ℕ) → count ≡ 0 → body_texts sends count ≡ 0
 body-none true count none = none

@@ -10,6 +10,8 @@ pub mod Serving
 pub mod Replying
 pub mod Streaming
 pub mod Pieces
+pub mod Parts
+pub mod Blobs
 pub mod Finding
 pub mod Counting
 pub mod Paging

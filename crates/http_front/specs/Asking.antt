@@ -6,19 +6,20 @@ use Rattle.arch_model.specs.Searching.{search}
 use Rattle.atom_mbox.specs.Feeds.{feed_of}
 use Rattle.html_pages.specs.Lines.{rows_shown}
 use Rattle.html_pages.specs.Pages.{listing_of, search_of, message_of}
-use Rattle.http_heads.specs.Addresses.{Named, TheListing, TextOf, ThreadOf, MessageOf, TheFeed, TheMailbox, ThreadFeedOf, ThreadMailboxOf, named_by, segments_of}
+use Rattle.http_heads.specs.Addresses.{Named, TheListing, TextOf, ThreadOf, MessageOf, TheFeed, TheMailbox, ThreadFeedOf, ThreadMailboxOf, TheEntries, BlobOf, named_by, segments_of}
 use Rattle.http_heads.specs.Heads.{IsHead, Asked, asked_of}
 use Rattle.http_heads.specs.Parameters.{path_of, query_of, parameter, skipped}
 use Rattle.http_heads.specs.declared.reply.Body.{Body}
-use Rattle.http_heads.specs.declared.reply.Body.TheVariants.{Page, Text, Feed, Mailbox}
+use Rattle.http_heads.specs.declared.reply.Body.TheVariants.{Page, Text, Feed, Mailbox, Entries, Blob}
 use Rattle.httparse.specs.Grammar.{RequestHead}
 use Rattle.mail_forms.specs.declared.row.Row.{Row}
 use Rattle.mime_parts.specs.Texts.{body_text_of}
+use Rattle.mirror_wire.specs.Lists.{list_of, list_text}
 use Rattle.query_lang.specs.Queries.{query_of as query_read}
 use Rattle.query_lang.specs.declared.query.Query.{Query}
 use Rattle.shelf_trees.specs.Twigs.{thread_twigs}
 use Rattle.thread_tree.specs.Laid.{tree_lines}
-use Rattle.http_front.specs.Views.{number_named, shown_row, rows_at, shown_text, shown_all}
+use Rattle.http_front.specs.Views.{number_named, shown_row, rows_at, shown_text, shown_all, blob_named}
 use Rattle.http_front.specs.Threads.{thread_rows, oldest_first, tree_page}
 use Rattle.http_front.specs.Mailboxes.{mailbox_at, whole_mailbox}
 
@@ -94,8 +95,18 @@ feed_found a numbers =
 abbrev pub feed_len : ℕ
 feed_len = 25
 
+-- The list of all entries, which a mirror reads.
+abbrev pub entries_found : Archive → Found
+entries_found a = Gives Entries (list_text a.config.form (list_of a))
+
+-- The text of a blob.
+abbrev pub blob_found : Option (List ℕ) → Found
+blob_found None = Missing
+blob_found (Some text) = Gives Blob text
+
 -- What an address names: the newest mails of the archive or of a thread in a feed, newest first; all
--- mails by number, or those of a thread by date, in a mailbox file; and the pages.
+-- mails by number, or those of a thread by date, in a mailbox file; the list of all entries and the
+-- text of a blob, of which mirrors are made; and the pages.
 abbrev pub named_found : Archive → List ℕ → Named → Found
 named_found a query TheListing = listing_found a (parameter (codes "q") query)
     (skipped (parameter (codes "o") query))
@@ -111,6 +122,8 @@ named_found a query (ThreadFeedOf id) = found_of (number_named a.entries id)
 named_found a query TheMailbox = Streams Mailbox (whole_mailbox a.entries)
 named_found a query (ThreadMailboxOf id) = found_of (number_named a.entries id)
     (λ (n : ℕ). Streams Mailbox (mailbox_at a.entries (oldest_first (thread_rows a n))))
+named_found a query TheEntries = entries_found a
+named_found a query (BlobOf digits) = blob_found (blob_named a.config.form a.entries digits)
 
 -- What is found of an address, if the path names one.
 abbrev pub path_found : Archive → List ℕ → Option Named → Found
@@ -122,10 +135,12 @@ abbrev pub target_found : Archive → List ℕ → Found
 target_found a target = path_found a (query_of target)
     (named_by a.config.name (segments_of (path_of target)))
 
--- Texts are read for what is named: for the page of a message, its text, feeds and mailbox files.
+-- Texts are read for what is named: for the page of a message, its text, feeds, mailbox files and the
+-- text of a blob.
 abbrev pub reads_texts : Named → Bool
 reads_texts TheListing = false
 reads_texts (ThreadOf id) = false
+reads_texts TheEntries = false
 reads_texts other = true
 
 -- Texts are read for what a path names, if it names anything.
@@ -138,12 +153,14 @@ abbrev pub target_reads : Archive → List ℕ → Bool
 target_reads a target = path_reads (named_by a.config.name (segments_of (path_of target)))
 
 -- How many texts are read at most to find what is named: one for each mail of a feed, and none for a
--- listing and for the page of a thread. Those of a mailbox file are read while it is said.
+-- listing, the page of a thread and the list of entries. Those of a mailbox file are read while it is
+-- said.
 abbrev pub texts_for : Named → ℕ
 texts_for (MessageOf id) = 1
 texts_for (TextOf id) = 1
 texts_for TheFeed = feed_len
 texts_for (ThreadFeedOf id) = feed_len
+texts_for (BlobOf digits) = 1
 texts_for other = 0
 
 -- How many texts are read at most to find what a path names, if it names anything.

@@ -1,10 +1,15 @@
 -- What an archive shows of its mails.
-use Rattle.std.specs.Prelude.{◌≡◌, ◌≤◌, ◌<◌, ℕ, true, is_some, nat_le, List, [], ◌∷◌, ◌++◌, Option, Some, None, codes, if◌then◌else◌}
+use Rattle.std.specs.Prelude.{◌≡◌, ◌≤◌, ◌<◌, ℕ, Bool, true, is_some, nat_le, List, [], ◌∷◌, ◌++◌, Option, Some, None, codes, if◌then◌else◌}
 use Rattle.std.specs.List.{flat_map}
+use Rattle.std.specs.Str.{bytes_eq}
+use Rattle.hex.specs.Hex.{encode_lower}
+use Rattle.arch_base.specs.Ids.{id_bytes}
 use Rattle.arch_base.specs.Moments.{last_moment}
+use Rattle.arch_base.specs.declared.ids.Form.{Form}
 use Rattle.arch_model.specs.Archives.{Archive, Entry, live, text_of}
 use Rattle.arch_model.specs.Listings.{row_in, number_of_id}
 use Rattle.atom_mbox.specs.declared.feeds.Shown.{Shown}
+use Rattle.git_objects.specs.Objects.{blob_id_of}
 use Rattle.mail_forms.specs.declared.row.Row.{Row}
 use Rattle.mime_parts.specs.Texts.{body_text_of}
 
@@ -56,3 +61,13 @@ shown_at a n = shown_by (shown_row a n) (shown_text a.entries n)
 -- The mails of these numbers, in their order.
 abbrev pub shown_all : Archive → List ℕ → List Shown
 shown_all a numbers = flat_map (shown_at a) numbers
+
+-- These are the lower-case digits of the id of a form that the blob of a text has.
+abbrev pub is_blob_hex : Form → List ℕ → List ℕ → Bool
+is_blob_hex form digits text = bytes_eq digits (encode_lower (id_bytes (blob_id_of form text)))
+
+-- The text of the first entry, live or not, whose blob has an id with these digits, if there is one.
+abbrev pub blob_named : Form → List Entry → List ℕ → Option (List ℕ)
+blob_named form [] digits = None
+blob_named form (e ∷ es) digits =
+    if is_blob_hex form digits e.text then Some e.text else blob_named form es digits

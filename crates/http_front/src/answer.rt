@@ -15,10 +15,10 @@ ghost use Rattle.http_front.specs.Sessions.{AnswersHead, ReadsHead, Serves, Spar
 
 use crate::found::{FoundBody, find_target};
 use crate::mailbox::{say_every_mail, say_mails};
-use crate::replies::{push_reply, say_status, say_unread, say_words};
+use crate::replies::{PART_LEN, push_front, say_parts, say_status, say_unread, say_words, sent};
 use arch_base::{Bytes, NoMemory};
 use arch_model::{Next, Shelf};
-use edge_io::{Sink, say};
+use edge_io::Sink;
 use http_heads::{Body, Request, Status, Verdict, judge, read_head};
 use std::alloc::Global;
 
@@ -105,6 +105,8 @@ fn serve<S: Shelf, O: Sink>(
 }
 
 /// Writes a reply with a body, and returns whether the session continues.
+///
+/// A long body is written in parts, without a copy of it all. Out of memory, none of it was written.
 fn say_whole<O: Sink>(
     alloc: Global,
     body: Body,
@@ -119,10 +121,12 @@ fn say_whole<O: Sink>(
         (O.taken out.new) (O.faults out.new) (continues result) }
     ensures sink { O.alike out.old out.new }
 {
-    let mut made = Bytes::new(alloc);
-    match push_reply(Status::Done, moment, body, bytes, sends, closes, &mut made) {
+    let words = sent(bytes, sends);
+    let (first, rest) = words.split_at(words.len().min(PART_LEN));
+    let mut front = Bytes::new(alloc);
+    match push_front(moment, body, bytes.len() as u128, first, closes, &mut front) {
         Ok(()) => {
-            let said = say(made.as_slice(), out);
+            let said = say_parts(front.as_slice(), rest, out);
             next_after(said.is_ok(), closes)
         }
         Err(NoMemory) => {

@@ -14,6 +14,7 @@ ghost use Rattle.http_front.specs.Sessions.{FindsIn, LeavesUnreadIn, form_found,
 use crate::feed::feed_at;
 use crate::listing::listing_at;
 use crate::message::{message_at, text_at};
+use crate::mirrors::{blob_at, entries_at};
 use crate::thread::{newest_of, oldest_of, thread_at};
 use arch_base::{Bytes, MessageNumbers, NoMemory};
 use arch_model::{Shelf, TextRefusal};
@@ -23,7 +24,7 @@ use std::alloc::Global;
 /// What stands under a target.
 #[derive(Drop)]
 pub(crate) enum FoundBody {
-    /// A body, which is said whole.
+    /// A body, all of which is at hand.
     Whole(Body, Bytes),
     /// The mailbox file of all mails.
     EveryMail,
@@ -109,6 +110,11 @@ fn find_address<S: Shelf>(
         Address::Thread(id) => find_mail(alloc, id, Form::Thread, shelf),
         Address::ThreadFeed(id) => find_mail(alloc, id, Form::Feed, shelf),
         Address::ThreadMailbox(id) => find_mail(alloc, id, Form::Mailbox, shelf),
+        Address::Entries => match entries_at(alloc, shelf) {
+            Ok(held) => Ok(held),
+            Err(NoMemory) => Err(TextRefusal::NoMemory),
+        },
+        Address::Blob(digits) => blob_at(alloc, digits, shelf),
     }
 }
 

@@ -10,6 +10,7 @@ mod laws;
 mod listing;
 mod mailbox;
 mod message;
+mod mirrors;
 mod numbers;
 mod replies;
 mod scan;

@@ -20,7 +20,7 @@ ghost use Rattle.http_front.specs.Streaming.{StreamsPart};
 
 use crate::answer::next_after;
 use crate::numbers::live_from;
-use crate::replies::{say_status, say_unread};
+use crate::replies::{PART_LEN, say_status, say_unread};
 use arch_base::{Bytes, NoMemory};
 use arch_model::{Next, Shelf, TextRefusal, is_live};
 use atom_mbox::mbox_piece;
@@ -37,9 +37,6 @@ pub(crate) struct Manner {
     /// Whether the connection ends with the reply.
     pub(crate) closes: bool,
 }
-
-/// The number of bytes from which the words that are to be said are said, before more are read.
-const PART_LEN: usize = 65_536;
 
 /// Writes the mailbox file of all mails, by number, and returns whether the session continues.
 ///

@@ -6,39 +6,66 @@ ghost use Rattle.arch_base.specs.Ids.{id_bytes};
 ghost use Rattle.edge_io.specs.Phrases.{SaysTo};
 ghost use Rattle.http_front.specs.Sessions.{PageSaysUnread};
 ghost use Rattle.http_heads.specs.Dates.{reply_date};
-ghost use Rattle.http_heads.specs.Replies.{allow_line as allow, close_line as close};
-ghost use Rattle.http_front.specs.Replies.{reply, sent_body, word, word_of, status_line as line_of, damaged_line as damaged, file_line};
+ghost use Rattle.http_heads.specs.Replies.{reply_head, allow_line as allow, close_line as close};
+ghost use Rattle.http_front.specs.Replies.{sent_body, word, word_of, status_line as line_of, damaged_line as damaged, file_line};
 
 use arch_base::{Bytes, NoMemory, ObjectId, hex_of};
 use arch_model::TextRefusal;
-use edge_io::{Sink, SinkFault};
+use edge_io::{Sink, SinkFault, say};
 use http_heads::{Body, Status, date_at, push_reply_head};
 use itoa::Buffer;
 use std::alloc::Global;
 use wire_replies::{Phrase, send};
 
-/// Appends a reply: its head, and its body unless the method is `HEAD`.
+/// The number of bytes that are written at once, of a reply that is longer.
+pub(crate) const PART_LEN: usize = 65_536;
+
+/// Appends the front of a reply with a body of this length: its head, and the first bytes of the body.
 ///
 /// `NoMemory` may leave a part of it appended.
-pub(crate) fn push_reply(
-    status: Status,
+pub(crate) fn push_front(
     moment: u64,
     body: Body,
-    bytes: &[u8],
-    sends: bool,
+    len: u128,
+    first: &[u8],
     closes: bool,
     into: &mut Bytes,
 ) -> Result<(), NoMemory>
     requires { IsMoment moment }
     ensures { OnOk result (into.new
-        ≡ into.old ++ reply status moment body bytes.now sends closes) }
+        ≡ into.old ++ reply_head Status.Done moment body len closes ++ first.now) }
 {
-    push_reply_head(status, moment, body, bytes.len() as u128, closes, into)?;
-    into.push_slice(sent(bytes, sends))
+    push_reply_head(Status::Done, moment, body, len, closes, into)?;
+    into.push_slice(first)
+}
+
+/// Writes the front of a reply, and then the rest in parts.
+pub(crate) fn say_parts<O: Sink>(front: &[u8], rest: &[u8], out: &mut O) -> Result<(), SinkFault>
+    ensures said { SaysTo O.Sink (front.now ++ rest.now) out.old out.new result }
+    ensures sink { O.alike out.old out.new }
+{
+    say(front, out)?;
+    say_in_parts(rest, out)
+}
+
+/// Writes words in parts, or nothing if there are none.
+fn say_in_parts<O: Sink>(words: &[u8], out: &mut O) -> Result<(), SinkFault>
+    ensures said { SaysTo O.Sink words.now out.old out.new result }
+    ensures sink { O.alike out.old out.new }
+{
+    let mut rest = words;
+    while !rest.is_empty() {
+        let (part, after) = rest.split_at(rest.len().min(PART_LEN));
+        match say(part, out) {
+            Ok(()) => rest = after,
+            Err(fault) => return Err(fault),
+        }
+    }
+    Ok(())
 }
 
 /// Returns the bytes of a body, or none in the reply to the method `HEAD`.
-fn sent(bytes: &[u8], sends: bool) -> &[u8]
+pub(crate) fn sent(bytes: &[u8], sends: bool) -> &[u8]
     ensures { result.now ≡ sent_body sends bytes.now }
 {
     if sends { bytes } else { b"" }

@@ -92,8 +92,9 @@ impl HttpSession {
     ///
     /// The contract then says nothing of what the session holds.
     ///
-    /// No more texts are read than the answered heads ask for: one for the page of a message or for
-    /// a text, 25 for a feed, those of a mailbox file, and none for a listing, a search or a thread.
+    /// No more texts are read than the answered heads ask for: one for the page of a message, for a
+    /// text or for a blob, 25 for a feed, those of a mailbox file, and none for a listing, a search,
+    /// a thread or the list of entries.
     pub fn feed<S: Shelf, O: Sink>(
         &mut self,
         piece: &[u8],
