@@ -7,6 +7,8 @@ mod failure_tests;
 #[cfg(test)]
 mod mails;
 #[cfg(test)]
+mod mirror_tests;
+#[cfg(test)]
 mod request_tests;
 #[cfg(test)]
 mod search_tests;

@@ -1,6 +1,6 @@
 //! Mails for the tests, and what the door of pages shows of them. The bodies were worked out by hand
 //! from the formats.
-use arch_base::Numbers;
+use arch_base::{Config, Form, Name, Numbers};
 use arch_model::{Command, Keep, Next};
 use archive_fixtures::in_memory;
 use edge_io::MemSink;
@@ -83,6 +83,10 @@ pub(crate) const THREAD_MBOX: &[u8] =
 pub(crate) const LONE_MBOX: &[u8] =
     b"From mboxrd@z Thu Jan  1 00:00:00 1970\nSubject: lone\nMessage-ID: <c@x>\n\nthree\n\n";
 
+/// The list of the entries of all three.
+pub(crate) const ENTRIES: &[u8] =
+    b"piv2 list 1\nlist\n4\nm 1 0 1706781700 1d023c572ccd6f3cc82ae855343346b043adaba5 103 d621b450ae1fbf27a31c9879d84eb9de5473a8b9\nm 2 0 1706785300 ac5059345d50ef7ae4d77e2e3ba0e01b2db1aeb9 160 7f0cf9761f145005eb1023b63f1d5532674303b0\nm 3 0 1706788900 cb07c39997994ff0909d92122107547598f01831 39 cefe08e5ad30ebdd2167497eacea142ea6be50e1\nend\n";
+
 /// The moment of all replies, 2024-02-01 10:03:20.
 pub(crate) const MOMENT: u64 = 1_706_781_800;
 
@@ -104,6 +108,22 @@ impl Connection {
     /// Opens a connection to an archive with the three mails.
     pub(crate) fn to_three(alloc: Global) -> Option<Self> {
         Some(Connection::to(alloc, archive_of_three(alloc)?))
+    }
+
+    /// Opens a connection to an archive with the first mail, whose objects have ids of SHA-256.
+    pub(crate) fn to_sha_256(alloc: Global) -> Option<Self> {
+        let config = Config {
+            name: Name::read(b"list")?,
+            limit: LIMIT,
+            slice: 50_000,
+            max: MAX,
+            mirror: false,
+            born: 1,
+            form: Form::Sha256,
+        };
+        let mut archive = MemArchive::new(alloc, config);
+        archive.command(&Command::Deliver(A), 1_706_781_700);
+        Some(Connection::to(alloc, archive))
     }
 
     /// Opens a connection to an archive.
@@ -128,6 +148,11 @@ impl Connection {
     /// Removes the mail with a number.
     pub(crate) fn remove(&mut self, n: u32) {
         self.archive.command(&Command::Remove(n), MOMENT);
+    }
+
+    /// Purges the mail with a number.
+    pub(crate) fn purge(&mut self, n: u32) {
+        self.archive.command(&Command::Purge(n), MOMENT);
     }
 
     /// Returns whether the replies are these bytes and the connection then continues or is closed, as

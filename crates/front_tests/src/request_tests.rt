@@ -10,29 +10,29 @@ use std::alloc::Global;
 
 /// A request and its reply.
 #[derive(Drop)]
-struct Case {
-    request: &'static [u8],
+pub(crate) struct Case {
+    pub(crate) request: &'static [u8],
     /// The status and its reason.
-    status: &'static [u8],
+    pub(crate) status: &'static [u8],
     /// The media type of the body.
-    kind: &'static [u8],
-    body: &'static [u8],
+    pub(crate) kind: &'static [u8],
+    pub(crate) body: &'static [u8],
     /// The lines of the head after those on the body.
-    more: &'static [u8],
+    pub(crate) more: &'static [u8],
     /// Whether the body is sent.
-    sends: bool,
+    pub(crate) sends: bool,
     /// Whether the connection then continues.
-    next: Next,
+    pub(crate) next: Next,
 }
 
 /// The media type of a page.
 const PAGE: &[u8] = b"text/html; charset=utf-8";
 
 /// The media type of a text.
-const TEXT: &[u8] = b"text/plain";
+pub(crate) const TEXT: &[u8] = b"text/plain";
 
 /// The media type of words.
-const WORDS: &[u8] = b"text/plain; charset=utf-8";
+pub(crate) const WORDS: &[u8] = b"text/plain; charset=utf-8";
 
 /// The media type of a feed.
 const ATOM: &[u8] = b"application/atom+xml; charset=utf-8";
@@ -41,7 +41,7 @@ const ATOM: &[u8] = b"application/atom+xml; charset=utf-8";
 const MBOX: &[u8] = b"application/mbox";
 
 /// The line that closes a connection.
-const CLOSE: &[u8] = b"Connection: close\r\n";
+pub(crate) const CLOSE: &[u8] = b"Connection: close\r\n";
 
 /// The lines that refuse a method.
 const ALLOW: &[u8] = b"Allow: GET, HEAD\r\nConnection: close\r\n";
@@ -564,7 +564,7 @@ static ABSENT: [Case; 22] = [
         next: Next::Go,
     },
     Case {
-        request: b"GET /list/_/list HTTP/1.1\r\n\r\n",
+        request: b"GET /list/_/ HTTP/1.1\r\n\r\n",
         status: b"404 Not Found",
         kind: WORDS,
         body: b"not found\n",
@@ -1091,7 +1091,7 @@ fn reply(alloc: Global, case: &Case) -> Result<Bytes, NoMemory> {
 }
 
 /// Returns whether a request to the archive with three mails gets its reply.
-fn is_answered(alloc: Global, case: &Case) -> bool {
+pub(crate) fn is_answered(alloc: Global, case: &Case) -> bool {
     let Ok(wanted) = reply(alloc, case) else {
         return false;
     };
