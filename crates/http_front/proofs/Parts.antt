@@ -1,6 +1,6 @@
 -- Words that are written in parts.
-use Rattle.std.proofs.Common.{◌≡◌, ◌∙◌, ℕ, Bool, true, false, List, [], ◌++◌, length, take, drop, Option, Result, Ok, Err, refl, sym, ap, subst, append_assoc, arith, if◌then◌else◌}
-use Rattle.std.proofs.lemmas.List.{append-nil, take-append-drop, nil_from_length}
+use Rattle.std.proofs.Common.{◌≡◌, ◌∙◌, ℕ, Bool, List, [], ◌++◌, length, Option, Ok, Err, refl, sym, ap, subst, append_assoc}
+use Rattle.std.proofs.lemmas.List.{append-nil, nil_from_length}
 use Rattle.edge_io.specs.Phrases.{Says}
 use Rattle.edge_io.specs.declared.sink.SinkFault.{SinkFault}
 use Rattle.edge_io.proofs.Wording.{plus-none, Says-then, Says-lost}
@@ -38,7 +38,7 @@ module _ (words rest : List ℕ) (out : Option (List ℕ)) (lost : ℕ) (out' : 
     pub written-lost : (fault : SinkFault) → Says part out' lost' out'' lost'' (Err fault) → Says words out lost out'' lost'' (Err fault)
     written-lost fault said =
         subst (λ (w : List ℕ). Says w out lost out'' lost'' (Err fault)) joined-on
-        (Says-lost (before.front ++ part) after out out'' lost lost'' fault (Err fault) tt (Says-then before.front part out out' out'' lost lost' lost'' tt (Err fault) before.says said))
+        (Says-lost (before.front ++ part) after out out'' lost lost'' fault (Err fault) refl (Says-then before.front part out out' out'' lost lost' lost'' tt (Err fault) before.says said))
 
 -- A reply by its front and what follows it.
 pub reply-parts : (moment len : ℕ) (body : Body) (bytes words first rest made front : List ℕ) (sends closes : Bool) → len ≡ length bytes → words ≡ sent_body sends bytes → first ++ rest ≡ words → made ≡ [] → front ≡ made ++ reply_head Done moment body len closes ++ first

@@ -1,7 +1,7 @@
 -- How many texts the door of pages reads at most to answer the bytes of a session.
 use Rattle.std.specs.Prelude.{◌+◌, ℕ, zero, suc, Bool, true, false, not, List, [], ◌∷◌, length, Option, Some, None, if◌then◌else◌}
 use Rattle.std.specs.List.{list_all, sum_by}
-use Rattle.arch_model.specs.Archives.{Entry, Archive, live}
+use Rattle.arch_model.specs.Archives.{Archive, live}
 use Rattle.http_heads.specs.Addresses.{Named, TheMailbox, ThreadMailboxOf, named_by, segments_of}
 use Rattle.http_heads.specs.Heads.{Asked}
 use Rattle.http_heads.specs.Parameters.{path_of}

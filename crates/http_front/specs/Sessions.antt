@@ -6,7 +6,7 @@ use Rattle.line_door.specs.Making.{in_ways}
 use Rattle.line_door.specs.Course.{talk}
 use Rattle.keep_course.specs.Courses.{ShelfRun}
 use Rattle.arch_model.specs.declared.shelf.Shelf.{Ghosts as Shelf}
-use Rattle.arch_model.specs.Archives.{Entry, Archive, live}
+use Rattle.arch_model.specs.Archives.{Archive, live}
 use Rattle.arch_model.specs.Shelves.{ReadsUpTo, ReadsAhead, ReadsIn}
 use Rattle.arch_base.specs.Ids.{id_bytes}
 use Rattle.arch_base.specs.declared.sequence.NoMemory.{NoMemory}

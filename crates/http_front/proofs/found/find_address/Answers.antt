@@ -1,7 +1,7 @@
 use Rattle.std.proofs.Common.{true}
-use Rattle.http_front.specs.Asking.{entries_found, blob_found}
+use Rattle.http_front.specs.Asking.{blob_found}
 use Rattle.http_front.specs.Views.{blob_named}
-use Rattle.http_front.proofs.Counting.{leaves-whole, leaves-page, blob-whole}
+use Rattle.http_front.proofs.Counting.{leaves-whole, blob-whole}
 use Rattle.http_front.proofs.found.find_address.Goals as goal
 
 pub returns-in-Blob-clause-left : goal.returns-in-Blob-clause-left

@@ -1,4 +1,5 @@
-use Rattle.std.proofs.Common.{◌≡◌, ◌++◌, ◌∙◌, length, sym, ap, arith}
+use Rattle.std.proofs.Common.{sym, arith}
+use Rattle.std.proofs.lemmas.Bool.Decides.{nat_tests}
 use Rattle.wire_replies.proofs.Wording.{split-joined}
 use Rattle.http_front.proofs.Parts.{written-none, written-more, written-lost, written-all}
 use Rattle.http_front.proofs.replies.say_in_parts.Goals as goal
@@ -19,4 +20,4 @@ returns-in-Err-clause-said g c =
     (sym (split-joined _ c.loop-rest.rest.now c.split_at.result.0.now c.split_at.result.1.now c.split_at.ensures.front c.split_at.ensures.back)) _ _ c.in-Err.fault c.in-Err.ensures.said
 
 pub returns-clause-said : goal.returns-clause-said
-returns-clause-said g c = written-all c.args.words.now c.loop-rest.rest.now _ _ _ _ c.loop-rest.invariant.written (omega (arith, c.is_empty.ensures))
+returns-clause-said g c = written-all c.args.words.now c.loop-rest.rest.now _ _ _ _ c.loop-rest.invariant.written (grind (arith, nat_tests))
