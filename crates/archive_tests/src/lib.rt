@@ -1,5 +1,5 @@
 //! Tests of archives in memory and on disks, by their public calls alone: `arch_model`,
-//! `arch_judge`, `mem_archive` and `archive_core`.
+//! `arch_judge`, `mem_archive`, `archive_core` and `mirror_wire`.
 #![tactic(auto)]
 
 #[cfg(test)]
@@ -10,6 +10,8 @@ mod counting_tests;
 mod engine_tests;
 #[cfg(test)]
 mod form_tests;
+#[cfg(test)]
+mod list_tests;
 #[cfg(test)]
 mod model_tests;
 #[cfg(test)]

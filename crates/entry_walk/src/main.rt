@@ -1,12 +1,14 @@
 //! Carries out deliveries, removals, purges and edits, and prints the answers and the epochs: `tests/git`
-//! and `tests/epochs` have git judge what it prints.
+//! and `tests/epochs` have git judge what it prints. Or it prints the list of the archive, which
+//! `tests/lists` compares with that of a plain writer.
 //!
 //! The first line of the standard input is the limit of an epoch, in bytes, with ` sha256` after it
 //! where the SHA-256 is to name the objects, in place of the SHA-1. After it come lines
 //! `deliver MOMENT LENGTH` and `edit MOMENT NUMBER LENGTH`, each before a message of LENGTH bytes, and
 //! lines `remove MOMENT NUMBER` and `purge MOMENT NUMBER`.
 //! Printed are the line of each answer and then, for each epoch that has an entry, the line
-//! `epoch NUMBER LENGTH`, its bytes, and a line feed. What can't be read ends the input.
+//! `epoch NUMBER LENGTH`, its bytes, and a line feed. What can't be read ends the input. If that is the
+//! line `list` alone, the list of the archive is printed in place of the epochs.
 #![tactic(auto)]
 
 ghost use Rattle.std.specs.Prelude.{◌<◌, ◌≤◌, length, IfSome};
@@ -18,6 +20,7 @@ use disk_model::EPOCHS;
 use edge_io::MemSink;
 use mem_archive::MemArchive;
 use memchr::memchr;
+use mirror_wire::write;
 use std::alloc::Global;
 use std::io::{self, Input, Read, Write};
 
@@ -77,8 +80,21 @@ fn walk(alloc: Global, archive: MemArchive, input: &[u8]) -> Result<Bytes, NoMem
     }
     let mut printed = Bytes::new(alloc);
     printed.push_slice(sink.taken())?;
-    push_epochs(alloc, &archive, &mut printed)?;
+    push_end(alloc, &archive, left, &mut printed)?;
     Ok(printed)
+}
+
+/// Appends what is printed after the answers, by what ends the input.
+fn push_end(
+    alloc: Global,
+    archive: &MemArchive,
+    left: &[u8],
+    into: &mut Bytes,
+) -> Result<(), NoMemory> {
+    match left {
+        b"list\n" => into.push_slice(write(alloc, archive)?.as_slice()),
+        _ => push_epochs(alloc, archive, into),
+    }
 }
 
 /// Returns the command at the front of an input and the rest, or `None` if there is none.
