@@ -7,6 +7,7 @@ use Rattle.std.proofs.lemmas.Bool.{false_from_ne_true}
 use Rattle.std.proofs.lemmas.Slice.Eq.{bytes_eq-Decides}
 use Rattle.mail_reader.specs.Ids.{own_id}
 use Rattle.arch_model.specs.Archives.{Entry, Archive, is_message, is_ended, is_id, live, owner, IsFree, without_text}
+use Rattle.arch_base.specs.declared.ids.Form.{Form}
 use Rattle.arch_base.specs.declared.ids.ObjectId.{ObjectId}
 use Rattle.store_finding.specs.declared.entries.StoredEntry.{StoredEntry}
 use Rattle.mail_reader.specs.StorageTexts.{IsStorageText}
@@ -26,9 +27,9 @@ step true e es id other more = rw other more
 step false e es id other more = more
 
 -- No entry has an own id that is none of those that are kept.
-others : (before es : List Entry) (id : List ℕ) → AllByRecursion (λ (s : StoredEntry). Some id ≢ Some s.seen.id) (stored_after before es) → AllByRecursion (λ (e : Entry). is_id id (own_id e.text) ≡ false) es
-others before [] id all = tt
-others before (e ∷ es) id all = (not_own id (own_id e.text) all.0, others (before ++ e ∷ []) es id all.1)
+others : (form : Form) (before es : List Entry) (id : List ℕ) → AllByRecursion (λ (s : StoredEntry). Some id ≢ Some s.seen.id) (stored_after form before es) → AllByRecursion (λ (e : Entry). is_id id (own_id e.text) ≡ false) es
+others form before [] id all = tt
+others form before (e ∷ es) id all = (not_own id (own_id e.text) all.0, others form (before ++ e ∷ []) es id all.1)
 
 none_owns : (es : List Entry) (id : List ℕ) → AllByRecursion (λ (e : Entry). is_id id (own_id e.text) ≡ false) es → owner (live es) id ≡ None
 none_owns [] id all = refl
@@ -52,7 +53,7 @@ ids_of : (v : StoreState) (text : List ℕ) → IsSome (own_id text) → Apart t
 ids_of v text some apart a keeps =
     let own = found (own_id text) some in
     let all = subst (λ (es : List StoredEntry). AllByRecursion (λ (s : StoredEntry). own_id text ≢ Some s.seen.id) es) keeps.kept apart in
-    (own.0, own.1, others [] a.entries own.0 (subst (λ (o : Option (List ℕ)). AllByRecursion (λ (s : StoredEntry). o ≢ Some s.seen.id) (stored_after [] a.entries)) own.1 all))
+    (own.0, own.1, others a.config.form [] a.entries own.0 (subst (λ (o : Option (List ℕ)). AllByRecursion (λ (s : StoredEntry). o ≢ Some s.seen.id) (stored_after a.config.form [] a.entries)) own.1 all))
 
 -- The text is free in the archive without another one.
 free_without : (v : StoreState) (text : List ℕ) → IsSome (own_id text) → Apart text v.entries → (a : Archive) → KeepsArchive v a → (old : List ℕ) → IsFree (live (without_text a.entries old)) text
