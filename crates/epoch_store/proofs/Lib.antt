@@ -1,3 +1,6 @@
+mod AddedEntries
+mod AdoptedArchive
+mod AdoptedEpochs
 mod CarriedOut
 mod Carrying
 pub mod Changing
@@ -14,6 +17,7 @@ mod KeptFiles
 mod LosingAll
 mod Making
 mod MessagedArchive
+mod MorePlanned
 mod NextArchive
 mod Placed
 mod Purged
