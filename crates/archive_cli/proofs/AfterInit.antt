@@ -26,10 +26,10 @@ use Rattle.epoch_store.specs.Opens.{IsOnlySynced, IsOpenedIn, OpensNone, ReadsWi
 use Rattle.epoch_store.specs.Promises.{WriteKind, Appends, Renews, cache_by}
 use Rattle.answer_lines.specs.Lines.{whole_line}
 use Rattle.archive_cli.specs.declared.outcome.Outcome.{Outcome}
-use Rattle.archive_cli.specs.declared.outcome.Outcome.TheVariants.{Made, Exists, Reindexed, Checked, Answered, Unopened}
+use Rattle.archive_cli.specs.declared.outcome.Outcome.TheVariants.{Made, Exists, Reindexed, Checked, Converted, Unconverted, Answered, Unopened}
 use Rattle.archive_cli.specs.declared.status.Status.{Status}
 use Rattle.archive_cli.specs.declared.words.Job.{Job}
-use Rattle.archive_cli.specs.declared.words.Job.TheVariants.{Help, Version, Replay, Load, Init, Deliver, Remove, Purge, Edit, Reindex, Check, Serve}
+use Rattle.archive_cli.specs.declared.words.Job.TheVariants.{Help, Version, Replay, Load, Init, Deliver, Remove, Purge, Edit, Reindex, Check, Convert, Serve}
 use Rattle.archive_cli.specs.DiskCommands.{IsOpenedAs, RunsOrStays, LeavesEither, delivering, removing, purging, editing}
 use Rattle.archive_cli.specs.Jobs.{DueRule, ShortDue}
 use Rattle.archive_cli.specs.Laws.{NoneOrNew, LeavesNone, NoneDue, DueOn, EndedAsDue, FoundNone, FoundNew, RunAfterInit, Goes}
@@ -77,6 +77,8 @@ none-ended files (Unopened refusal.NoMemory) shut opened = (refusal.NoMemory, re
 none-ended files (Unopened (refusal.Damaged file at)) shut opened = absurd (no-damage files file at shut opened)
 none-ended files (Reindexed live) shut opened = absurd (no-root files shut opened.0 opened.1)
 none-ended files (Checked entries live next) shut opened = absurd (no-root files shut opened.0 opened.1)
+none-ended files (Converted entries) shut opened = absurd (no-root files shut opened.0 opened.1)
+none-ended files (Unconverted why) shut opened = absurd (no-root files shut opened.0 opened.1)
 none-ended files (Answered reply) shut opened = absurd (no-root files shut opened.0 opened.1)
 none-ended files (Made name) shut opened = absurd opened
 none-ended files Exists shut opened = absurd opened
@@ -121,6 +123,7 @@ module _ (c : Content) (shut : IsShutFile (c root_name).seen) (i j : RunState) (
   none-ends (Edit number) on input s printed ends = none-job _ after_first input s printed ends ends.acts.acts.answer ends.acts.acts.files
   none-ends Reindex on input s printed ends = none-job _ unasked input s printed ends ends.acts.acts.answer ends.acts.acts.files
   none-ends Check on input s printed ends = none-job _ unasked input s printed ends ends.acts.acts.answer ends.acts.acts.files
+  none-ends Convert never input s printed ends = absurd never
   none-ends Help never input s printed ends = absurd never
   none-ends Version never input s printed ends = absurd never
   none-ends (Replay config) never input s printed ends = absurd never
@@ -143,6 +146,7 @@ module _ (a : Archive) (i j : RunState) (reads : ReadsWith [] a i.content) where
   new-ends (Edit number) on input s printed ends = inl (ends.outcome, ends.acts.moment, ends.acts.first, ends.acts.acts.done a [] reads, ends.status_is, ends.printed_is)
   new-ends Reindex on input s printed ends = inl (ends.outcome, ends.acts.moment, ends.acts.first, ends.acts.acts.done a [] reads, ends.status_is, ends.printed_is)
   new-ends Check on input s printed ends = inl (ends.outcome, ends.acts.moment, ends.acts.first, ends.acts.acts.done a [] reads, ends.status_is, ends.printed_is)
+  new-ends Convert never input s printed ends = absurd never
   new-ends Help never input s printed ends = absurd never
   new-ends Version never input s printed ends = absurd never
   new-ends (Replay config) never input s printed ends = absurd never
@@ -183,6 +187,7 @@ module _ {D : Type 0} (g : Disk D) where
       none-leaves (Edit number) on left at (sent, is, (moment, first, runs)) = none-runs _ runs
       none-leaves Reindex on left at runs = none-runs _ runs
       none-leaves Check on left at runs = none-runs _ runs
+      none-leaves Convert never left at runs = absurd never
       none-leaves Help never left at runs = absurd never
       none-leaves Version never left at runs = absurd never
       none-leaves (Replay settings) never left at runs = absurd never
@@ -220,6 +225,7 @@ module _ {D : Type 0} (g : Disk D) where
           new-runs Renews (editing number (message_of sent) moment) (goes-by keeps takes itself commands words k a _ (inr (inr (inr (inr (record { number = number; asked = asked; input = sent; told = is; at = moment; first = first; is = refl })))))) runs
       new-leaves Reindex asked on runs = new-syncs runs
       new-leaves Check asked on runs = new-syncs runs
+      new-leaves Convert asked never runs = absurd never
       new-leaves Help asked never runs = absurd never
       new-leaves Version asked never runs = absurd never
       new-leaves (Replay settings) asked never runs = absurd never

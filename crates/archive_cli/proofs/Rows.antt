@@ -24,11 +24,11 @@ use Rattle.store_finding.specs.Kept.{StoreState, IsDiskOf}
 use Rattle.archive_core.specs.Engines.{store-recovers}
 use Rattle.archive_core.proofs.Engines.{recovers_either}
 use Rattle.archive_cli.specs.declared.outcome.Outcome.{Outcome}
-use Rattle.archive_cli.specs.declared.outcome.Outcome.TheVariants.{Made, Exists, Reindexed, Checked, Answered, Unopened}
+use Rattle.archive_cli.specs.declared.outcome.Outcome.TheVariants.{Made, Exists, Reindexed, Checked, Converted, Unconverted, Answered, Unopened}
 use Rattle.archive_cli.specs.declared.status.Status.{Status}
 use Rattle.archive_cli.specs.declared.status.Status.TheVariants as exit
 use Rattle.archive_cli.specs.declared.words.Job.{Job}
-use Rattle.archive_cli.specs.declared.words.Job.TheVariants.{Help, Version, Replay, Load, Init, Deliver, Remove, Purge, Edit, Reindex, Check, Serve}
+use Rattle.archive_cli.specs.declared.words.Job.TheVariants.{Help, Version, Replay, Load, Init, Deliver, Remove, Purge, Edit, Reindex, Check, Convert, Serve}
 use Rattle.archive_core.specs.Commands.{AnswersPurge, AnswersRemoval}
 use Rattle.archive_cli.specs.DiskCommands.{IsMadeDisk, MakesDisk, StandsAs, StaysUnopened, CommandTakes, ReindexesOn, ChecksOn, delivering, removing, purging, editing}
 use Rattle.archive_cli.specs.Laws.{WithMessage, WithRemoval, WithPurge, WithEdit, Goes, RunsInARow}
@@ -55,6 +55,7 @@ on-asked words (Purge number) on asked = ap asks_on asked.is
 on-asked words (Edit number) on asked = ap asks_on asked.is
 on-asked words Reindex on asked = ap asks_on asked
 on-asked words Check on asked = ap asks_on asked
+on-asked words Convert never asked = absurd never
 on-asked words Help never asked = absurd never
 on-asked words Version never asked = absurd never
 on-asked words (Replay config) never asked = absurd never
@@ -69,6 +70,7 @@ asked-on words (Purge number) on asked = tt
 asked-on words (Edit number) on asked = tt
 asked-on words Reindex on asked = tt
 asked-on words Check on asked = tt
+asked-on words Convert on asked = false≢true (sym (ap asks_on asked) ∙ on)
 asked-on words Help on asked = false≢true (sym (ap asks_on asked) ∙ on)
 asked-on words Version on asked = false≢true (sym (ap asks_on asked) ∙ on)
 asked-on words (Replay config) on asked = false≢true (sym (ap asks_on asked.is) ∙ on)
@@ -87,6 +89,7 @@ only-makes words Help asked also = absurd (other-words 105 45 (codes "nit") (cod
 only-makes words Version asked also = absurd (other-words 105 45 (codes "nit") (codes "-version") asked.1.after [] (omega arith) (sym asked.1.is ∙ also))
 only-makes words Reindex asked also = absurd (other-words 105 114 (codes "nit") (codes "eindex") asked.1.after [] (omega arith) (sym asked.1.is ∙ also))
 only-makes words Check asked also = absurd (other-words 105 99 (codes "nit") (codes "heck") asked.1.after [] (omega arith) (sym asked.1.is ∙ also))
+only-makes words Convert asked also = absurd (other-words 105 99 (codes "nit") (codes "onvert") asked.1.after [] (omega arith) (sym asked.1.is ∙ also))
 only-makes words (Replay config) asked also = absurd (other-words 105 114 (codes "nit") (codes "eplay") asked.1.after also.after (omega arith) (sym asked.1.is ∙ also.is))
 only-makes words Deliver asked also = absurd (other-words 105 100 (codes "nit") (codes "eliver") asked.1.after [] (omega arith) (sym asked.1.is ∙ also))
 only-makes words (Remove number) asked also = absurd (other-words 105 114 (codes "nit") (codes "emove") asked.1.after (decimal number ∷ []) (omega arith) (sym asked.1.is ∙ also.is))
@@ -122,6 +125,8 @@ module _ (words : List (List ℕ)) (i : RunState) where
   steps-reindexed s t old (Unopened why) stays = steps-unopened s t old why stays
   steps-reindexed s t old (Made name) never = absurd never
   steps-reindexed s t old Exists never = absurd never
+  steps-reindexed s t old (Converted entries) never = absurd never
+  steps-reindexed s t old (Unconverted why) never = absurd never
   steps-reindexed s t old (Checked entries live next) never = absurd never
   steps-reindexed s t old (Answered reply) never = absurd never
 
@@ -130,6 +135,8 @@ module _ (words : List (List ℕ)) (i : RunState) where
   steps-checked s t old (Unopened why) stays = steps-unopened s t old why stays
   steps-checked s t old (Made name) never = absurd never
   steps-checked s t old Exists never = absurd never
+  steps-checked s t old (Converted entries) never = absurd never
+  steps-checked s t old (Unconverted why) never = absurd never
   steps-checked s t old (Reindexed live) never = absurd never
   steps-checked s t old (Answered reply) never = absurd never
 
@@ -176,6 +183,8 @@ module _ (words : List (List ℕ)) (i : RunState) where
     steps-done s t old (Unopened why) stays = steps-unopened s t old why stays
     steps-done s t old (Made name) never = absurd never
     steps-done s t old Exists never = absurd never
+    steps-done s t old (Converted entries) never = absurd never
+    steps-done s t old (Unconverted why) never = absurd never
     steps-done s t old (Reindexed live) never = absurd never
     steps-done s t old (Checked entries live next) never = absurd never
 
@@ -226,6 +235,7 @@ module _ (words : List (List ℕ)) (i : RunState) where
       leads-does input told status printed (Some (Edit number)) asks ends = leads-edited number asks input told status printed ends
       leads-does input told status printed (Some Reindex) asks ends = leads-reindexed status printed ends
       leads-does input told status printed (Some Check) asks ends = leads-checked status printed ends
+      leads-does input told status printed (Some Convert) asks ends = absurd (only-on words Convert asked asks)
       leads-does input told status printed (Some Help) asks ends = absurd (only-on words Help asked asks)
       leads-does input told status printed (Some Version) asks ends = absurd (only-on words Version asked asks)
       leads-does input told status printed (Some (Replay config)) asks ends = absurd (only-on words (Replay config) asked asks)
@@ -262,6 +272,8 @@ module _ (words : List (List ℕ)) (asked : AsksForInit words) (i j : RunState) 
   made-by config asks born first Exists makes done = absurd (cc done)
   made-by config asks born first (Reindexed live) makes done = absurd makes
   made-by config asks born first (Checked entries live next) makes done = absurd makes
+  made-by config asks born first (Converted entries) makes done = absurd makes
+  made-by config asks born first (Unconverted why) makes done = absurd makes
   made-by config asks born first (Unopened why) makes done = absurd makes
   made-by config asks born first (Answered answer.DiskFault) makes done = absurd (cc done)
   made-by config asks born first (Answered answer.NoMemory) makes done = absurd (cc done)

@@ -6,6 +6,7 @@
 #![tactic(auto)]
 
 mod archive;
+mod converting;
 mod counted;
 mod engine;
 mod entries;
@@ -19,6 +20,7 @@ mod texts;
 mod walk;
 
 pub use archive::DiskArchive;
+pub use converting::Unconverted;
 pub use counted::CountedArchive;
 pub use engine::Engine;
 pub use not_made::{NotMade, NotOpened};

@@ -1,6 +1,7 @@
 mod CarriedOut
 mod Carrying
 pub mod Changing
+mod ConvertCarried
 mod Delivering
 mod Edited
 mod Ends

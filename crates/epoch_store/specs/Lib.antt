@@ -5,5 +5,6 @@ pub mod Promises
 pub mod Reads
 pub mod Settling
 pub mod Commands
+pub mod Converting
 pub mod Entering
 pub mod Leaving

@@ -4,6 +4,8 @@
 //! No crash leaves a change half done.
 #![tactic(auto)]
 
+mod convert_refusal;
+mod converting;
 mod epochs;
 mod first;
 mod laws;
@@ -15,6 +17,7 @@ mod store;
 mod store_opening;
 mod writing;
 
+pub use convert_refusal::ConvertRefusal;
 pub use laws::{law_of_opened_files, law_of_recovery, law_of_stores};
 pub use refusal::InitRefusal;
 pub use store::Store;

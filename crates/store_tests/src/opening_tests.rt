@@ -27,7 +27,7 @@ pub(crate) struct Listing {
 }
 
 /// Returns what an archive has.
-fn listed(alloc: Global, store: &Store) -> Result<Listing, NoMemory> {
+pub(crate) fn listed(alloc: Global, store: &Store) -> Result<Listing, NoMemory> {
     let mut entries = Vec::new(alloc);
     for index in 0..store.stored().len() {
         if let Some(line) = store.entry(index as u64) {
@@ -141,6 +141,21 @@ pub(crate) struct Change {
 }
 
 impl Change {
+    /// Returns the call before which, and after which, the archive has this.
+    pub(crate) fn of(before: Listing, after: Listing) -> Change {
+        Change {
+            before: Some(before),
+            after: Some(after),
+            found_before: false,
+            found_after: false,
+        }
+    }
+
+    /// Returns whether both were found after stops.
+    pub(crate) fn found_both(&self) -> bool {
+        self.found_before && self.found_after
+    }
+
     /// Returns the call before which, and after which, the archive has this many of the four calls.
     pub(crate) fn crash_between(
         alloc: Global,
@@ -284,7 +299,7 @@ fn stop_each(
     assert!(rt; change.before != change.after);
     for passes in 0..ENOUGH {
         if stop_after(rt, alloc, limit, calls, passes, change)? {
-            assert!(rt; change.found_before && change.found_after && passes > 0);
+            assert!(rt; change.found_both() && passes > 0);
             return Ok(());
         }
     }

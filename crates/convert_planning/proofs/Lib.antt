@@ -1,0 +1,10 @@
+mod Blobs
+mod Colliding
+mod Converted
+mod Extended
+mod Kept
+mod Mapped
+mod Sets
+mod Starts
+mod Taking
+mod Whole

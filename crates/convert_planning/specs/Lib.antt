@@ -1,0 +1,4 @@
+pub mod Converting
+pub mod Collisions
+pub mod ConvertSteps
+pub mod Mapping
