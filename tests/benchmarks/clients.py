@@ -68,6 +68,70 @@ class News(Connection):
         return said
 
 
+class Mailbox(Connection):
+    """A mail program that has logged in by IMAP."""
+
+    def __init__(self, port):
+        super().__init__(port)
+        self.until(b"\r\n")
+        self.ask(b"LOGIN list p")
+
+    def ask(self, words):
+        """Sends a command, and returns the reply. No line of a text may begin with the tag."""
+        self.send(b"tag " + words + b"\r\n")
+        held = bytearray()
+        while not held.endswith(b"\r\n") or not held.startswith(b"tag ", held.rfind(b"\n", 0, -1) + 1):
+            self.more(held)
+        assert held.startswith(b"tag OK", held.rfind(b"\n", 0, -1) + 1), held[-200:]
+        return held
+
+    def fetch(self, words, count):
+        """Fetches something of so many messages."""
+        said = self.ask(b"FETCH " + words)
+        assert said.count(b" FETCH (") == count, said[:200]
+
+    def search(self, words):
+        """Searches for what some messages have."""
+        said = self.ask(b"SEARCH " + words)
+        assert said.startswith(b"* SEARCH "), said[:200]
+
+
+class Maildrop(Connection):
+    """A mail program that has logged in by POP3."""
+
+    def __init__(self, port, user, password):
+        super().__init__(port)
+        self.until(b"\r\n")
+        self.ask(b"USER " + user)
+        self.ask(b"PASS " + password)
+
+    def ask(self, words, end=b"\r\n"):
+        """Sends a command, and reads the reply up to its end."""
+        self.send(words + b"\r\n")
+        said = self.until(end)
+        assert said.startswith(b"+OK"), said[:200]
+
+
+class Mailer(Connection):
+    """A mail system that delivers by LMTP."""
+
+    def __init__(self, port):
+        super().__init__(port)
+        self.until(b"\r\n")
+        self.send(b"LHLO bench\r\n")
+        held = bytearray()
+        while not held.endswith(b"\r\n") or not held.startswith(b"250 ", held.rfind(b"\n", 0, -1) + 1):
+            self.more(held)
+
+    def deliver(self, texts):
+        """Sends whole transactions at once, and reads their replies, which are four lines each."""
+        self.send(b"".join(b"MAIL FROM:<x@y>\r\nRCPT TO:<list@h>\r\nDATA\r\n" + it.replace(b"\n", b"\r\n") + b".\r\n" for it in texts))
+        held = bytearray()
+        while held.count(b"\n") < 4 * len(texts):
+            self.more(held)
+        assert sum(it.startswith(b"250 ") for it in held.split(b"\n")) == 3 * len(texts), held[:200]
+
+
 class Pages(Connection):
     """A connection that asks for pages."""
 
@@ -102,6 +166,20 @@ def articles(port, group, count):
     for _ in range(500):
         reader.ask(b"ARTICLE %d" % chance.randint(1, count), b"220 ")
     reader.close()
+
+
+def mails(drop, count):
+    """Reads 500 of so many mails of a maildrop, one by one."""
+    chance = random.Random(5)
+    for _ in range(500):
+        drop.ask(b"RETR %d" % chance.randint(1, count), b"\r\n.\r\n")
+
+
+def bodies(box, count):
+    """Reads 500 of so many mails of a mailbox that is only read, one by one."""
+    chance = random.Random(5)
+    for _ in range(500):
+        box.fetch(b"%d BODY[]" % chance.randint(1, count), 1)
 
 
 def pages(port, targets):

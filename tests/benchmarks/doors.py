@@ -1,7 +1,7 @@
 """What the doors of a server do, beside another server of the same mails."""
 import os
 
-from benchmarks import clients, mails, peer, runs
+from benchmarks import clients, peer, runs
 from benchmarks.table import Limit, Row
 
 SERVED = 20_000
@@ -46,9 +46,7 @@ def others(bench):
     """Returns the times of the peer, or what it lacks."""
     if missing := peer.lack():
         return [None] * len(works(0, b"")), missing
-    home = f"{bench.room}/peer"
-    peer.make_inbox(mails.load_mails(SERVED), home)
-    with peer.serving(home) as port:
+    with peer.serving(peer.load_inbox(bench, SERVED)) as port:
         return times(port, SERVED, b"/list/all.mbox.gz"), ""
 
 

@@ -1,18 +1,21 @@
 """public-inbox, the server beside which the doors are measured, over the same mails.
 
-It is Debian's package, with what its index and its server of pages need:
+It is Debian's package, with what its index and its servers of pages, mailboxes and mail need:
 
     apt-get install public-inbox libplack-perl libdbd-sqlite3-perl libsearch-xapian-perl \\
-        libinline-c-perl liblinux-inotify2-perl"""
+        libinline-c-perl liblinux-inotify2-perl libparse-recdescent-perl"""
 import os
 import shutil
 import subprocess
 from contextlib import contextmanager
 
-from benchmarks import runs
+from benchmarks import mails, runs
 
 NAME = "list"
+# The servers, at ports above the first as those of `piv2 serve`.
+PAGES, NEWS, MAILBOXES, MAIL = (1, "httpd"), (2, "nntpd"), (3, "imapd"), (4, "pop3d")
 MODULES = ["PublicInbox::V2Writable", "Plack", "DBD::SQLite", "Search::Xapian", "Inline", "Linux::Inotify2"]
+PARSER = "Parse::RecDescent"
 IMPORT = r"""
 use strict; use warnings;
 use PublicInbox::Config; use PublicInbox::Eml; use PublicInbox::V2Writable;
@@ -30,11 +33,27 @@ for my $name (sort { $a <=> $b } grep { /^\d+$/ } readdir $names) {
 $writable->done;
 """
 
+# Adds each mail that comes, its length on a line before it, and says so once it is in the inbox and its index.
+ADD = r"""
+use strict; use warnings;
+use PublicInbox::Config; use PublicInbox::Eml; use PublicInbox::V2Writable;
+$| = 1;
+my $inbox = PublicInbox::Config->new->lookup_name('list');
+while (defined(my $length = <STDIN>)) {
+  read(STDIN, my $text, $length) == $length or die;
+  my $writable = PublicInbox::V2Writable->new($inbox, {nproc => 1});
+  $writable->init_inbox(0);
+  $writable->add(PublicInbox::Eml->new(\$text)) or die 'not added';
+  $writable->done;
+  print "added\n";
+}
+"""
 
-def lack(modules=MODULES):
-    """Returns what is missing for a server of public-inbox, or nothing. These modules of Perl have to be
-    there."""
-    words = ["public-inbox-init", "public-inbox-httpd", "public-inbox-nntpd"]
+
+def lack(modules=MODULES, programs=("init", "httpd", "nntpd")):
+    """Returns what is missing for a server of public-inbox, or nothing. These modules of Perl and these
+    programs have to be there."""
+    words = [f"public-inbox-{it}" for it in programs]
     if missing := [it for it in words if not shutil.which(it)]:
         return f"no {missing[0]}"
     for name in modules:
@@ -55,17 +74,52 @@ def environment(home):
     return {**os.environ, "HOME": home, "PI_CONFIG": f"{home}/config"}
 
 
-def make_inbox(texts, home):
-    """Makes an inbox of mails, with its index, in a folder."""
+def run(words, home, **more):
+    """Runs a program of the peer's, of which nothing is shown."""
+    how = {"env": environment(home), "check": True, "stdin": subprocess.DEVNULL, "stdout": subprocess.DEVNULL}
+    subprocess.run(words, **how, **more)
+
+
+def add(texts, home):
+    """Adds mails to an inbox and its index."""
+    shutil.rmtree(f"{home}/mails", ignore_errors=True)
     os.makedirs(f"{home}/mails")
     for number, text in enumerate(texts, 1):
         with open(f"{home}/mails/{number}", "wb") as it:
             it.write(text)
-    how = {"env": environment(home), "check": True, "stdin": subprocess.DEVNULL, "stdout": subprocess.DEVNULL}
+    run(["perl", "-e", IMPORT, f"{home}/mails"], home)
+
+
+@contextmanager
+def adding(home):
+    """Gives what adds a mail to an inbox and its index, and returns once it is there."""
+    how = {"env": environment(home), "stdin": subprocess.PIPE, "stdout": subprocess.PIPE}
+    with subprocess.Popen(["perl", "-e", ADD], **how) as adder:
+
+        def add_one(text):
+            adder.stdin.write(b"%d\n%b" % (len(text), text))
+            adder.stdin.flush()
+            assert adder.stdout.readline() == b"added\n"
+
+        yield add_one
+
+
+def make_inbox(texts, home):
+    """Makes an inbox of mails, with its index, in a folder."""
+    os.makedirs(f"{home}/pop3")
     init = ["public-inbox-init", "-V2", NAME, f"{home}/inbox", f"http://localhost/{NAME}", f"{NAME}@load.invalid"]
-    subprocess.run(init, stderr=subprocess.DEVNULL, **how)
-    subprocess.run(["git", "config", "-f", f"{home}/config", f"publicinbox.{NAME}.newsgroup", NAME], **how)
-    subprocess.run(["perl", "-e", IMPORT, f"{home}/mails"], **how)
+    run(init, home, stderr=subprocess.DEVNULL)
+    for name, value in ((f"publicinbox.{NAME}.newsgroup", NAME), ("publicinbox.pop3state", f"{home}/pop3")):
+        run(["git", "config", "-f", f"{home}/config", name, value], home)
+    add(texts, home)
+
+
+def load_inbox(bench, count):
+    """Returns the folder of an inbox of so many mails of the load's kind, which is made at the first call."""
+    home = f"{bench.room}/peer-{count}"
+    if not os.path.exists(home):
+        make_inbox(mails.load_mails(count), home)
+    return home
 
 
 def make_epoch(folder, changes):
@@ -81,16 +135,15 @@ def make_epoch(folder, changes):
 
 
 @contextmanager
-def serving(home):
-    """Gives the port above which a server of pages and one of news listen, at the next and the one after
-    that, as those of `piv2 serve` do; and ends them."""
+def serving(home, doors=(PAGES, NEWS)):
+    """Gives the port above which servers of these doors listen, as those of `piv2 serve` do; and ends them."""
     port, servers = runs.free_port(), []
     how = {"env": environment(home), "stdin": subprocess.DEVNULL, "stdout": subprocess.DEVNULL}
     try:
-        for place, name in ((1, "httpd"), (2, "nntpd")):
+        for place, name in doors:
             words = [f"public-inbox-{name}", "--worker-processes=0", "-l", f"127.0.0.1:{port + place}"]
             servers.append(subprocess.Popen(words, stderr=subprocess.DEVNULL, **how))
-        for place, server in enumerate(servers, 1):
+        for (place, _), server in zip(doors, servers):
             runs.wait_for(port + place, lambda server=server: server.poll() is None)
         yield port
     finally:

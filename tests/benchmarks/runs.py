@@ -16,6 +16,7 @@ from lib.served import Server, free_port as any_free_port
 
 TESTS = os.path.dirname(os.path.dirname(os.path.realpath(__file__)))
 ROUNDS = 3
+LAST = 5  # The ports of a server are opened in rising order, from its own to so many after it.
 
 
 def seconds(work, *given):
@@ -193,7 +194,7 @@ def serving(program, folder):
     """Gives a running server of an archive, and ends it."""
     server = Server(program, folder, free_port())
     try:
-        wait_for(server.port, lambda: server.child.poll() is None)
+        wait_for(server.port + LAST, lambda: server.child.poll() is None)
         yield server
         assert server.stop()[0] == 0
     finally:

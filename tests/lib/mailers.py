@@ -400,22 +400,56 @@ def deliver_by_postfix(post):
     try:
         status, printed, said = run("sh", "-c", f"postmap -c {home}/conf {home}/conf/transport && postfix -c {home}/conf start")
         judge(status == 0, f"the start of postfix: {printed!r} {said!r}")
-        hand_to_postfix(post, home)
+        hand_over(post, "postfix", "sendmail", "-C", f"{home}/conf")
     finally:
         run("postfix", "-c", f"{home}/conf", "stop")
         shutil.rmtree(home)
 
 
-def hand_to_postfix(post, home):
-    """Sends a message, and waits until postfix has handed it over: with a field more."""
+EXIM = """exim_path = {exim}
+spool_directory = {home}/spool
+log_file_path = {home}/log-%slog
+primary_hostname = host.example.org
+keep_environment =
+begin routers
+{router}
+begin transports
+{transport}
+"""
+
+
+def deliver_by_exim(post):
+    """Has an exim of the test's own, with the router and the transport of docs/SERVING.md, hand over a message."""
+    exim = tool("exim4", "exim")
+    if exim is None:
+        return
+    if os.getuid():
+        judging.skip("exim: skipped, since root alone starts it")
+        return
+    home = tempfile.mkdtemp()
+    os.chmod(home, 0o755)
+    os.mkdir(f"{home}/spool")
+    for name in ("", "/spool"):
+        shutil.chown(f"{home}{name}", "Debian-exim")
+    router, transport = moved(block_with("docs/SERVING.md", "driver = accept"), post.port).split("\n\n")
+    with open(f"{home}/conf", "w", encoding="utf-8") as file:
+        file.write(EXIM.format(exim=exim, home=home, router=router, transport=transport))
+    try:
+        hand_over(post, "exim", exim, "-C", f"{home}/conf", "-odf")
+    finally:
+        shutil.rmtree(home)
+
+
+def hand_over(post, name, *words):
+    """Gives a message to a mail system, and waits until it has handed it over: with a field more."""
     number = post.archive.next
     text, end = plain(number), time.monotonic() + 2 * ANSWER
-    words = ["sendmail", "-C", f"{home}/conf", "-i", "-f", "ada@example.org", "list@lists.example.org"]
+    words = [*words, "-i", "-f", "ada@example.org", "list@lists.example.org"]
     done = subprocess.run(words, input=text, stdout=subprocess.PIPE, stderr=subprocess.STDOUT, timeout=ANSWER, check=False)
-    judge(done.returncode == 0, f"a message for postfix: {done.returncode} {done.stdout!r}")
+    judge(done.returncode == 0, f"a message for {name}: {done.returncode} {done.stdout!r}")
     while (found := post.control.show(number)) == b"7 not live %d" % number and time.monotonic() < end:
         time.sleep(0.1)
-    judge(re.sub(rb"\AReceived: .*\n(?:\t.*\n)*", b"", found) == text, f"what postfix hands over: {found!r}")
+    judge(re.sub(rb"\AReceived: .*\n(?:\t.*\n)*", b"", found) == text, f"what {name} hands over: {found!r}")
     post.archive.append(found, 0)
 
 
@@ -526,6 +560,7 @@ def check(program, folder, port):
         copy_by_fetchmail(post)
         deliver_by_document(post)
         deliver_by_postfix(post)
+        deliver_by_exim(post)
         idle(post)
         post.end()
     finally:

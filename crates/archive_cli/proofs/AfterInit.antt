@@ -1,6 +1,7 @@
 -- A run after an `init` in doubt.
 use Rattle.std.proofs.Common.{◌≡◌, ◌≤◌, ◌∙◌, ◌⊎◌, inl, inr, ℕ, List, [], Option, Some, None, refl, sym, ap, subst, arith}
 use Rattle.arch_base.specs.declared.config.Config.{Config}
+use Rattle.arch_base.specs.declared.ids.Form.TheVariants.{Sha256}
 use Rattle.disk_model.specs.declared.disk.Disk.{Ghosts as Disk}
 use Rattle.disk_model.specs.declared.name.FileName.{FileName}
 use Rattle.disk_model.specs.Disk.{File, Files, Content, Image, BothTold, WhereTold, ReadsFit, bytes_of}
@@ -22,15 +23,17 @@ use Rattle.store_finding.specs.Finding.{IsDamagedFile}
 use Rattle.store_finding.specs.Kept.{StoreState}
 use Rattle.store_finding.specs.Recovery.{Recovers, RecoversWith}
 use Rattle.store_finding.proofs.UniqueRoots.{not_shut}
+use Rattle.convert_planning.specs.Converting.{converted}
+use Rattle.convert_planning.specs.Laws.{ConversionFollows}
 use Rattle.epoch_store.specs.Opens.{IsOnlySynced, IsOpenedIn, OpensNone, ReadsWith, SyncsAtMost}
 use Rattle.epoch_store.specs.Promises.{WriteKind, Appends, Renews, cache_by}
 use Rattle.answer_lines.specs.Lines.{whole_line}
 use Rattle.archive_cli.specs.declared.outcome.Outcome.{Outcome}
-use Rattle.archive_cli.specs.declared.outcome.Outcome.TheVariants.{Made, Exists, Reindexed, Checked, Answered, Unopened}
+use Rattle.archive_cli.specs.declared.outcome.Outcome.TheVariants.{Made, Exists, Reindexed, Checked, Converted, Unconverted, Answered, Unopened}
 use Rattle.archive_cli.specs.declared.status.Status.{Status}
 use Rattle.archive_cli.specs.declared.words.Job.{Job}
-use Rattle.archive_cli.specs.declared.words.Job.TheVariants.{Help, Version, Replay, Load, Init, Deliver, Remove, Purge, Edit, Reindex, Check, Serve}
-use Rattle.archive_cli.specs.DiskCommands.{IsOpenedAs, RunsOrStays, LeavesEither, delivering, removing, purging, editing}
+use Rattle.archive_cli.specs.declared.words.Job.TheVariants.{Help, Version, Replay, Load, Init, Deliver, Remove, Purge, Edit, Reindex, Check, Convert, Serve}
+use Rattle.archive_cli.specs.DiskCommands.{IsOpenedAs, RunsOrStays, LeavesConverted, LeavesEither, delivering, removing, purging, editing}
 use Rattle.archive_cli.specs.Jobs.{DueRule, ShortDue}
 use Rattle.archive_cli.specs.Laws.{NoneOrNew, LeavesNone, NoneDue, DueOn, EndedAsDue, FoundNone, FoundNew, RunAfterInit, Goes}
 use Rattle.archive_cli.specs.OpenedFiles.{LeavesFiles}
@@ -77,6 +80,8 @@ none-ended files (Unopened refusal.NoMemory) shut opened = (refusal.NoMemory, re
 none-ended files (Unopened (refusal.Damaged file at)) shut opened = absurd (no-damage files file at shut opened)
 none-ended files (Reindexed live) shut opened = absurd (no-root files shut opened.0 opened.1)
 none-ended files (Checked entries live next) shut opened = absurd (no-root files shut opened.0 opened.1)
+none-ended files (Converted entries) shut opened = absurd (no-root files shut opened.0 opened.1)
+none-ended files (Unconverted why) shut opened = absurd (no-root files shut opened.0 opened.1)
 none-ended files (Answered reply) shut opened = absurd (no-root files shut opened.0 opened.1)
 none-ended files (Made name) shut opened = absurd opened
 none-ended files Exists shut opened = absurd opened
@@ -121,6 +126,7 @@ module _ (c : Content) (shut : IsShutFile (c root_name).seen) (i j : RunState) (
   none-ends (Edit number) on input s printed ends = none-job _ after_first input s printed ends ends.acts.acts.answer ends.acts.acts.files
   none-ends Reindex on input s printed ends = none-job _ unasked input s printed ends ends.acts.acts.answer ends.acts.acts.files
   none-ends Check on input s printed ends = none-job _ unasked input s printed ends ends.acts.acts.answer ends.acts.acts.files
+  none-ends Convert on input s printed ends = none-job _ unasked input s printed ends ends.acts.acts.answer ends.acts.acts.files
   none-ends Help never input s printed ends = absurd never
   none-ends Version never input s printed ends = absurd never
   none-ends (Replay config) never input s printed ends = absurd never
@@ -143,6 +149,7 @@ module _ (a : Archive) (i j : RunState) (reads : ReadsWith [] a i.content) where
   new-ends (Edit number) on input s printed ends = inl (ends.outcome, ends.acts.moment, ends.acts.first, ends.acts.acts.done a [] reads, ends.status_is, ends.printed_is)
   new-ends Reindex on input s printed ends = inl (ends.outcome, ends.acts.moment, ends.acts.first, ends.acts.acts.done a [] reads, ends.status_is, ends.printed_is)
   new-ends Check on input s printed ends = inl (ends.outcome, ends.acts.moment, ends.acts.first, ends.acts.acts.done a [] reads, ends.status_is, ends.printed_is)
+  new-ends Convert on input s printed ends = inl (ends.outcome, ends.acts.moment, ends.acts.first, ends.acts.acts.done a [] reads, ends.status_is, ends.printed_is)
   new-ends Help never input s printed ends = absurd never
   new-ends Version never input s printed ends = absurd never
   new-ends (Replay config) never input s printed ends = absurd never
@@ -183,6 +190,7 @@ module _ {D : Type 0} (g : Disk D) where
       none-leaves (Edit number) on left at (sent, is, (moment, first, runs)) = none-runs _ runs
       none-leaves Reindex on left at runs = none-runs _ runs
       none-leaves Check on left at runs = none-runs _ runs
+      none-leaves Convert on left at runs = none-runs _ runs
       none-leaves Help never left at runs = absurd never
       none-leaves Version never left at runs = absurd never
       none-leaves (Replay settings) never left at runs = absurd never
@@ -190,12 +198,12 @@ module _ {D : Type 0} (g : Disk D) where
       none-leaves (Init settings) never left at runs = absurd never
       none-leaves (Serve turns port) never left at runs = absurd never
 
-    module _ (keeps : KeepsNumbers) (takes : TakesFromView) (itself : FollowsItself) (commands : CommandFollows) (words : List (List ℕ)) (k : RunState) (a : Archive) (reads : ReadsWith [] a (g.content from)) where
+    module _ (keeps : KeepsNumbers) (takes : TakesFromView) (itself : FollowsItself) (commands : CommandFollows) (converts : ConversionFollows) (words : List (List ℕ)) (k : RunState) (a : Archive) (reads : ReadsWith [] a (g.content from)) where
       abbrev NewOrGone : Files → Type 0
       NewOrGone image = NoneOrNew config coming image ⊎ ((b : Archive) × Goes words k a b × Recovers image b)
 
       stays : Goes words k a a
-      stays = goes-by keeps takes itself commands words k a a (inl refl)
+      stays = goes-by keeps takes itself commands converts words k a a (inl refl)
 
       new-runs : (way : WriteKind) (wanted : Archive → Done) → Goes words k a (wanted a).archive → RunsOrStays g from next (LeavesEither way wanted) → LeavesOnly g from next NewOrGone
       new-runs way wanted goes (inl only) = weaker g from next (Image (g.content from)) NewOrGone only (λ image left. inl (each image left))
@@ -209,17 +217,26 @@ module _ {D : Type 0} (g : Disk D) where
       new-syncs (inl only) = weaker g from next (Image (g.content from)) NewOrGone only (λ image left. inl (each image left))
       new-syncs (inr first) = joined g from first.synced next (Image (g.content from)) (λ (image : Files). Recovers image a) NewOrGone first.before (first.after a [] reads) (λ image left. inl (each image left)) (λ image one. inr (a, stays, one))
 
+      new-converts : AsksFor words Convert → RunsOrStays g from next LeavesConverted → LeavesOnly g from next NewOrGone
+      new-converts asked (inl only) = weaker g from next (Image (g.content from)) NewOrGone only (λ image left. inl (each image left))
+      new-converts asked (inr first) =
+          joined g from first.synced next (Image (g.content from)) (LeavesConverted [] a) NewOrGone first.before (first.after a [] reads) (λ image left. inl (each image left)) (λ image either. elim either [
+            | inl one ↦ inr (a, stays, one)
+            | inr other ↦ inr (converted Sha256 a, goes-by keeps takes itself commands converts words k a (converted Sha256 a) (inr (inr (inr (inr (inr (record { asked = asked; taken = other.0; is = refl })))))), other.1)
+          ])
+
       new-leaves : (job : Job) → AsksFor words job → IsOnArchive job → JobLeaves g (Some job) from next k.left k.coming → LeavesOnly g from next NewOrGone
       new-leaves Deliver asked on (sent, is, (moment, first, runs)) =
-          new-runs Appends (delivering (message_of sent) moment) (goes-by keeps takes itself commands words k a _ (inr (inl (record { asked = asked; input = sent; told = is; at = moment; first = first; is = refl })))) runs
+          new-runs Appends (delivering (message_of sent) moment) (goes-by keeps takes itself commands converts words k a _ (inr (inl (record { asked = asked; input = sent; told = is; at = moment; first = first; is = refl })))) runs
       new-leaves (Remove number) asked on (moment, first, runs) =
-          new-runs Appends (removing number moment) (goes-by keeps takes itself commands words k a _ (inr (inr (inl (record { number = number; asked = asked; at = moment; first = first; is = refl }))))) runs
+          new-runs Appends (removing number moment) (goes-by keeps takes itself commands converts words k a _ (inr (inr (inl (record { number = number; asked = asked; at = moment; first = first; is = refl }))))) runs
       new-leaves (Purge number) asked on (moment, first, runs) =
-          new-runs Renews (purging number moment) (goes-by keeps takes itself commands words k a _ (inr (inr (inr (inl (record { number = number; asked = asked; is = refl })))))) runs
+          new-runs Renews (purging number moment) (goes-by keeps takes itself commands converts words k a _ (inr (inr (inr (inl (record { number = number; asked = asked; is = refl })))))) runs
       new-leaves (Edit number) asked on (sent, is, (moment, first, runs)) =
-          new-runs Renews (editing number (message_of sent) moment) (goes-by keeps takes itself commands words k a _ (inr (inr (inr (inr (record { number = number; asked = asked; input = sent; told = is; at = moment; first = first; is = refl })))))) runs
+          new-runs Renews (editing number (message_of sent) moment) (goes-by keeps takes itself commands converts words k a _ (inr (inr (inr (inr (inl (record { number = number; asked = asked; input = sent; told = is; at = moment; first = first; is = refl }))))))) runs
       new-leaves Reindex asked on runs = new-syncs runs
       new-leaves Check asked on runs = new-syncs runs
+      new-leaves Convert asked on runs = new-converts asked runs
       new-leaves Help asked never runs = absurd never
       new-leaves Version asked never runs = absurd never
       new-leaves (Replay settings) asked never runs = absurd never
@@ -228,7 +245,7 @@ module _ {D : Type 0} (g : Disk D) where
       new-leaves (Serve turns port) asked never runs = absurd never
 
   module _ (counts_now : (disk : D) (t : ℕ) (image : Files) → t ≤ g.moment disk → Image (g.content disk) image → g.left_since disk t image) (reads_fit : (disk : D) → ReadsFit (g.content disk))
-      (keeps : KeepsNumbers) (takes : TakesFromView) (itself : FollowsItself) (commands : CommandFollows) where
+      (keeps : KeepsNumbers) (takes : TakesFromView) (itself : FollowsItself) (commands : CommandFollows) (converts : ConversionFollows) where
     pub after-init : RunAfterInit g
     after-init first second config job a b i j k l old made from next c asked shut one told kept asks on two =
         by (each (as_read c) (λ name. reads_fit made c made-told name))
@@ -271,5 +288,5 @@ module _ {D : Type 0} (g : Disk D) where
               is_born = is_born;
               reads = reads;
               ended = ended-by (IsDue second) (DueOn job new) second b k l (new-due new k l reads second job asks on) two.ends;
-              crash = new-leaves config i.coming from next from-each keeps takes itself commands second k new found job asks on did;
+              crash = new-leaves config i.coming from next from-each keeps takes itself commands converts second k new found job asks on did;
             })

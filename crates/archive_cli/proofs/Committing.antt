@@ -5,6 +5,7 @@ use Rattle.disk_model.specs.declared.disk.Disk.{Ghosts as Disk}
 use Rattle.disk_model.specs.Disk.{File, Files, Content, Image, BothTold, WhereTold, ReadsFit, bytes_of}
 use Rattle.disk_model.specs.Moments.{started}
 use Rattle.disk_model.specs.Synced.{IsSettled}
+use Rattle.root_slots.specs.declared.root.Root.{Root}
 use Rattle.root_slots.specs.Between.{WentBetween}
 use Rattle.root_slots.specs.OneRoot.{BeginsRootIn, BeginsNoRoot, BeginsOneRoot, RunsOneRoot, WentOneRoot}
 use Rattle.root_slots.proofs.OneRoots.{any_one, joined_one, looks_none, looks_one, none_begins, went_any, went_between}
@@ -30,7 +31,7 @@ use Rattle.archive_core.specs.Engines.{unchanged-is}
 use Rattle.archive_core.proofs.Replies.{done-then, refused-then}
 use Rattle.archive_cli.specs.OpenedFiles.{CommitsIfDone, CommitsOne, CommitsOpened, OnlySettled}
 use Rattle.archive_cli.specs.declared.outcome.Outcome.{Outcome}
-use Rattle.archive_cli.specs.declared.outcome.Outcome.TheVariants.{Made, Exists, Reindexed, Checked, Answered, Unopened}
+use Rattle.archive_cli.specs.declared.outcome.Outcome.TheVariants.{Made, Exists, Reindexed, Checked, Converted, Unconverted, Answered, Unopened}
 
 -- Each command may be answered that memory ran out.
 pub starved-answer : (command : Command) → IsForCommand command answer.NoMemory
@@ -63,7 +64,7 @@ pub opened-went : (v : StoreState) (old mid : Option Content) → ReadsFit old �
 opened-went v old mid fit opened kept settled = went_between (1 - v.slot) None old mid (omega arith) (opened-one v old mid fit opened kept settled)
 
 -- A root that was committed after that is the one change of the root file.
-rooted-over : (v : StoreState) (slot : ℕ) (next : List ℕ) (old mid new : Option Content) → slot ≡ 1 - v.slot → 1536 ≤ length next → WhereTold (λ (k : Content). OpensFiles (as_read k) (Ok v)) old → BothTold (IsSettledBy v.root v.slot) old mid → BothTold (HasNewRoot slot next) mid new → BothTold (HasNewRoot slot next) old new
+pub rooted-over : (v : StoreState) (slot : ℕ) (next : List ℕ) (old mid new : Option Content) → slot ≡ 1 - v.slot → 1536 ≤ length next → WhereTold (λ (k : Content). OpensFiles (as_read k) (Ok v)) old → BothTold (IsSettledBy v.root v.slot) old mid → BothTold (HasNewRoot slot next) mid new → BothTold (HasNewRoot slot next) old new
 rooted-over v slot next None None None other long opened kept rooted = tt
 rooted-over v slot next None None (Some n) other long opened kept rooted = absurd rooted
 rooted-over v slot next None (Some m) new other long opened kept rooted = absurd kept
@@ -77,14 +78,14 @@ rooted-over v slot next (Some k) (Some m) (Some n) other long opened kept rooted
 
 -- A command that was done commits one root.
 pub commits-done : (way : WriteKind) (keeps : StoreState → StoreState → Type 0) (found made : StoreState) (old new : Option Content) (reply : Answer) → OnDone reply (keeps found made) → OnDone reply (GoesOnBy way found.root made.root) → OnDone reply (made.slot ≡ 1 - found.slot) → OnDone reply (BothTold (HasNewRoot made.slot (spelling made.root)) old new) → OnDone reply (WhereTold IsSettled new)
-    → OnDone reply (CommitsOne way keeps found old new)
-commits-done way keeps found made old new (answer.Ok number id) kept goes_on slot rooted settled = record { made = made; kept = kept; goes_on = goes_on; slot = slot; rooted = rooted; settled = settled }
+    → OnDone reply (CommitsOne (GoesOnBy way) keeps found old new)
+commits-done way keeps found made old new (answer.Ok number id) kept goes_on slot rooted settled = record { made = made; kept = kept; root = goes_on; slot = slot; rooted = rooted; settled = settled }
 commits-done way keeps found made old new other kept goes_on slot rooted settled = tt
 
 -- The same after files were opened.
-pub opened-commits : (way : WriteKind) (keeps : StoreState → StoreState → Type 0) (v : StoreState) (old mid new : Option Content) (reply : Answer) → WhereTold (λ (k : Content). OpensFiles (as_read k) (Ok v)) old → BothTold (IsSettledBy v.root v.slot) old mid → OnDone reply (CommitsOne way keeps v mid new) → OnDone reply (CommitsOpened way keeps old new)
-opened-commits way keeps v old mid new reply opened kept done = done-then reply (CommitsOne way keeps v mid new) (CommitsOpened way keeps old new)
-    (λ one. (v, opened, record { made = one.made; kept = one.kept; goes_on = one.goes_on; slot = one.slot; rooted = rooted-over v one.made.slot (spelling one.made.root) old mid new one.slot (spelling_least one.made.root) opened kept one.rooted; settled = one.settled })) done
+pub opened-commits : (goes_on : Root → Root → Type 0) (keeps : StoreState → StoreState → Type 0) (v : StoreState) (old mid new : Option Content) (reply : Answer) → WhereTold (λ (k : Content). OpensFiles (as_read k) (Ok v)) old → BothTold (IsSettledBy v.root v.slot) old mid → OnDone reply (CommitsOne goes_on keeps v mid new) → OnDone reply (CommitsOpened goes_on keeps old new)
+opened-commits goes_on keeps v old mid new reply opened kept done = done-then reply (CommitsOne goes_on keeps v mid new) (CommitsOpened goes_on keeps old new)
+    (λ one. (v, opened, record { made = one.made; kept = one.kept; root = one.root; slot = one.slot; rooted = rooted-over v one.made.slot (spelling one.made.root) old mid new one.slot (spelling_least one.made.root) opened kept one.rooted; settled = one.settled })) done
 
 -- It keeps fewer files, if that is what is asked.
 pub commits-as : (way : WriteKind) (keeps fewer : StoreState → StoreState → Type 0) (o : Outcome) (old new : Option Content) → ((found made : StoreState) → keeps found made → fewer found made) → CommitsIfDone way keeps o old new → CommitsIfDone way fewer o old new
@@ -92,9 +93,11 @@ commits-as way keeps fewer (Made name) old new less commits = tt
 commits-as way keeps fewer Exists old new less commits = tt
 commits-as way keeps fewer (Reindexed live) old new less commits = tt
 commits-as way keeps fewer (Checked entries live next) old new less commits = tt
+commits-as way keeps fewer (Converted entries) old new less commits = tt
+commits-as way keeps fewer (Unconverted why) old new less commits = tt
 commits-as way keeps fewer (Unopened why) old new less commits = tt
-commits-as way keeps fewer (Answered reply) old new less commits = done-then reply (CommitsOpened way keeps old new) (CommitsOpened way fewer old new)
-    (λ done. (done.0, done.1, record { made = done.2.made; kept = less done.0 done.2.made done.2.kept; goes_on = done.2.goes_on; slot = done.2.slot; rooted = done.2.rooted; settled = done.2.settled })) commits
+commits-as way keeps fewer (Answered reply) old new less commits = done-then reply (CommitsOpened (GoesOnBy way) keeps old new) (CommitsOpened (GoesOnBy way) fewer old new)
+    (λ done. (done.0, done.1, record { made = done.2.made; kept = less done.0 done.2.made done.2.kept; root = done.2.root; slot = done.2.slot; rooted = done.2.rooted; settled = done.2.settled })) commits
 
 -- A command that was refused leaves what opening the files left.
 pub opened-refused : {D : Type 0} (g : Disk D) (old : Option Content) (mid new : D) (reply : Answer) → OnlySettled old (g.content mid) → OnRefusal reply (UnlessFault reply (OnlyLooks g mid new)) → OnRefusal reply (UnlessFault reply (OnlySettled old (g.content new)))

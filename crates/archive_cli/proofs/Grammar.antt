@@ -16,7 +16,7 @@ use Rattle.arch_base.specs.declared.ids.Form.TheVariants as form
 use Rattle.archive_cli.specs.Words.{AreMakingWords, IsInit, IsReplay, AreNumberWords, IsLone, IsServe, IsServeOption, GivesServing, serve_word, IsLoad, IsJob, AsksFor, IsSetting, IsOneUpTo, EachOnce, setting_word, limit_of, slice_of, max_of, mirror_of, form_given, limits, slices, maxes, mirrors, forms, spelled, limit_in, slice_in, max_in, mirror_in, config_of}
 use Rattle.archive_cli.specs.Options.{IsServing, HoldsSettings, HoldsMore, HoldsTwo, Collects, config_by, marks}
 use Rattle.archive_cli.specs.declared.words.Job.{Job}
-use Rattle.archive_cli.specs.declared.words.Job.TheVariants.{Help, Version, Replay, Load, Init, Deliver, Remove, Purge, Edit, Reindex, Check, Serve}
+use Rattle.archive_cli.specs.declared.words.Job.TheVariants.{Help, Version, Replay, Load, Init, Deliver, Remove, Purge, Edit, Reindex, Check, Convert, Serve}
 use Rattle.archive_cli.specs.declared.words.ServeOption.{ServeOption}
 use Rattle.archive_cli.specs.declared.words.ServeOption.TheVariants as serving
 use Rattle.archive_cli.specs.declared.words.Setting.{Setting}
@@ -316,6 +316,7 @@ module _ (k : Numbered) (word : List ℕ) (more : List (List ℕ)) where
   numbered_only Deliver e = absurd (not-alone (word_of k) (codes "deliver") word more e)
   numbered_only Reindex e = absurd (not-alone (word_of k) (codes "reindex") word more e)
   numbered_only Check e = absurd (not-alone (word_of k) (codes "check") word more e)
+  numbered_only Convert e = absurd (not-alone (word_of k) (codes "convert") word more e)
   numbered_only (Remove number) r = as-kind k Removal (word_of k ∷ word ∷ more) number (sym (head-word (word_of k) (codes "remove") (word ∷ more) (decimal number ∷ []) r.is)) r
   numbered_only (Purge number) r = as-kind k Purging (word_of k ∷ word ∷ more) number (sym (head-word (word_of k) (codes "purge") (word ∷ more) (decimal number ∷ []) r.is)) r
   numbered_only (Edit number) r = as-kind k Editing (word_of k ∷ word ∷ more) number (sym (head-word (word_of k) (codes "edit") (word ∷ more) (decimal number ∷ []) r.is)) r
@@ -378,6 +379,7 @@ module _ (word name : List ℕ) (options : List (List ℕ)) where
   not_made o x y z v h Deliver e = cc e
   not_made o x y z v h Reindex e = cc e
   not_made o x y z v h Check e = cc e
+  not_made o x y z v h Convert e = cc e
   not_made o x y z v h (Remove number) r = o (cc r.is)
   not_made o x y z v h (Purge number) r = x (cc r.is)
   not_made o x y z v h (Edit number) r = y (cc r.is)
@@ -393,6 +395,7 @@ module _ (word name : List ℕ) (options : List (List ℕ)) where
   other_word o x y z p q v Deliver e = cc e
   other_word o x y z p q v Reindex e = cc e
   other_word o x y z p q v Check e = cc e
+  other_word o x y z p q v Convert e = cc e
   other_word o x y z p q v (Remove number) r = o (cc r.is)
   other_word o x y z p q v (Purge number) r = x (cc r.is)
   other_word o x y z p q v (Edit number) r = y (cc r.is)
@@ -419,6 +422,7 @@ module _ (word name : List ℕ) (options : List (List ℕ)) where
     not_replayed e Deliver f = cc f
     not_replayed e Reindex f = cc f
     not_replayed e Check f = cc f
+    not_replayed e Convert f = cc f
     not_replayed e (Remove number) r = no-replay Removal (sym (head-word word (codes "remove") (name ∷ options) (decimal number ∷ []) r.is) ∙ is)
     not_replayed e (Purge number) r = no-replay Purging (sym (head-word word (codes "purge") (name ∷ options) (decimal number ∷ []) r.is) ∙ is)
     not_replayed e (Edit number) r = no-replay Editing (sym (head-word word (codes "edit") (name ∷ options) (decimal number ∷ []) r.is) ∙ is)
@@ -532,6 +536,7 @@ serve_only after Version e = absurd (apart 115 45 (codes "erve") (codes "-versio
 serve_only after Deliver e = absurd (apart 115 100 (codes "erve") (codes "eliver") (omega arith) (head-word (codes "serve") (codes "deliver") after [] e))
 serve_only after Reindex e = absurd (apart 115 114 (codes "erve") (codes "eindex") (omega arith) (head-word (codes "serve") (codes "reindex") after [] e))
 serve_only after Check e = absurd (apart 115 99 (codes "erve") (codes "heck") (omega arith) (head-word (codes "serve") (codes "check") after [] e))
+serve_only after Convert e = absurd (apart 115 99 (codes "erve") (codes "onvert") (omega arith) (head-word (codes "serve") (codes "convert") after [] e))
 serve_only after (Remove number) r = absurd (no-serve Removal (sym (head-word (codes "serve") (codes "remove") after (decimal number ∷ []) r.is)))
 serve_only after (Purge number) r = absurd (no-serve Purging (sym (head-word (codes "serve") (codes "purge") after (decimal number ∷ []) r.is)))
 serve_only after (Edit number) r = absurd (no-serve Editing (sym (head-word (codes "serve") (codes "edit") after (decimal number ∷ []) r.is)))
@@ -616,6 +621,7 @@ load_only after Version e = absurd (apart 108 45 (codes "oad") (codes "-version"
 load_only after Deliver e = absurd (apart 108 100 (codes "oad") (codes "eliver") (omega arith) (head-word (codes "load") (codes "deliver") after [] e))
 load_only after Reindex e = absurd (apart 108 114 (codes "oad") (codes "eindex") (omega arith) (head-word (codes "load") (codes "reindex") after [] e))
 load_only after Check e = absurd (apart 108 99 (codes "oad") (codes "heck") (omega arith) (head-word (codes "load") (codes "check") after [] e))
+load_only after Convert e = absurd (apart 108 99 (codes "oad") (codes "onvert") (omega arith) (head-word (codes "load") (codes "convert") after [] e))
 load_only after (Remove number) r = absurd (no-load Removal (sym (head-word (codes "load") (codes "remove") after (decimal number ∷ []) r.is)))
 load_only after (Purge number) r = absurd (no-load Purging (sym (head-word (codes "load") (codes "purge") after (decimal number ∷ []) r.is)))
 load_only after (Edit number) r = absurd (no-load Editing (sym (head-word (codes "load") (codes "edit") after (decimal number ∷ []) r.is)))

@@ -7,6 +7,7 @@ pub mod Printed
 pub mod Leaving
 pub mod OnDisk
 pub mod Committing
+pub mod ConvertedDisk
 pub mod Rows
 pub mod AfterInit
 pub mod PlayedEvents

@@ -22,6 +22,8 @@ use Rattle.arch_model.specs.declared.opening.OpenRefusal.TheVariants as refusal
 use Rattle.store_finding.specs.declared.entries.StoredEntry.{StoredEntry}
 use Rattle.epoch_store.specs.declared.refusal.InitRefusal.{InitRefusal}
 use Rattle.epoch_store.specs.declared.refusal.InitRefusal.TheVariants as making
+use Rattle.epoch_store.specs.declared.convert_refusal.ConvertRefusal.{ConvertRefusal}
+use Rattle.epoch_store.specs.declared.convert_refusal.ConvertRefusal.TheVariants as converting
 use Rattle.epoch_store.specs.First.{MakingAnswers, RefusesToMake, first_root_of}
 use Rattle.store_finding.specs.Files.{as_read}
 use Rattle.epoch_store.specs.Opens.{OpensFiles, OpensNone, ReadsWith, IsWant, SyncsFirst, SyncsAtMost, OnSynced}
@@ -33,7 +35,7 @@ use Rattle.archive_core.specs.Engines.{RecoversOrBare, AllRecoverOrBare}
 use Rattle.archive_core.specs.Openings.{LeavesKindly}
 use Rattle.archive_core.proofs.Stored.{stored-length}
 use Rattle.archive_core.proofs.Engines.{all_or_bare, either_of, left_is, recovers_either, stands_for, with_cache}
-use Rattle.archive_cli.specs.DiskCommands.{MakesDisk, unmade, IsFault, IsOpenedAs, IsReadAs, TakesTo, ReindexesTo, ChecksTo, StandsAs, StaysUnopened, CommandTakes, RunsOrStays, LeavesEither}
+use Rattle.archive_cli.specs.DiskCommands.{MakesDisk, conversion_outcome, unmade, IsFault, IsOpenedAs, IsReadAs, TakesTo, ReindexesTo, ChecksTo, StandsAs, StaysUnopened, CommandTakes, RunsOrStays, LeavesEither}
 use Rattle.archive_cli.specs.declared.outcome.Outcome.{Outcome}
 use Rattle.archive_cli.specs.declared.outcome.Outcome.TheVariants.{Made, Reindexed, Checked, Answered, Unopened}
 
@@ -66,10 +68,12 @@ unmade-cause before now why o is rose = record { later = rose.later; failed = λ
 
     of_why : (w : InitRefusal) → IsFault (unmade w) → not_made w ≡ not_made making.DiskFault
     of_why making.Exists (inl other) = absurd (cc other)
-    of_why making.Exists (inr other) = absurd (cc other)
+    of_why making.Exists (inr (inl other)) = absurd (cc other)
+    of_why making.Exists (inr (inr other)) = absurd (cc other)
     of_why making.DiskFault fault = refl
     of_why making.NoMemory (inl other) = absurd (cc other)
-    of_why making.NoMemory (inr other) = absurd (cc other)
+    of_why making.NoMemory (inr (inl other)) = absurd (cc other)
+    of_why making.NoMemory (inr (inr other)) = absurd (cc other)
 
 -- An archive was made, and the disk didn't fail.
 pub made-cause : (before now : ℕ) (name : List ℕ) → now ≡ before → RoseIf (IsFault (Made name)) before now
@@ -77,7 +81,8 @@ made-cause before now name same = record { later = omega (arith, same); failed =
   where
     none : IsFault (Made name) → Rose before now
     none (inl other) = absurd (cc other)
-    none (inr other) = absurd (cc other)
+    none (inr (inl other)) = absurd (cc other)
+    none (inr (inr other)) = absurd (cc other)
 
 -- What is kept beside the files was built anew, and the disk didn't fail.
 pub reindexed-cause : (before now live : ℕ) → now ≡ before → RoseIf (IsFault (Reindexed live)) before now
@@ -85,7 +90,8 @@ reindexed-cause before now live same = record { later = omega (arith, same); fai
   where
     none : IsFault (Reindexed live) → Rose before now
     none (inl other) = absurd (cc other)
-    none (inr other) = absurd (cc other)
+    none (inr (inl other)) = absurd (cc other)
+    none (inr (inr other)) = absurd (cc other)
 
 -- It was counted, and the disk didn't fail.
 pub checked-cause : (before now entries live next : ℕ) → now ≡ before → RoseIf (IsFault (Checked entries live next)) before now
@@ -93,7 +99,8 @@ checked-cause before now entries live next same = record { later = omega (arith,
   where
     none : IsFault (Checked entries live next) → Rose before now
     none (inl other) = absurd (cc other)
-    none (inr other) = absurd (cc other)
+    none (inr (inl other)) = absurd (cc other)
+    none (inr (inr other)) = absurd (cc other)
 
 -- It wasn't opened.
 abbrev not_opened : OpenRefusal → Result StoreState OpenRefusal
@@ -105,14 +112,17 @@ refused-cause before now why rose = record { later = rose.later; failed = λ fau
     of_why : (w : OpenRefusal) → IsFault (Unopened w) → not_opened w ≡ not_opened refusal.DiskFault
     of_why refusal.DiskFault fault = refl
     of_why refusal.NoMemory (inl other) = absurd (cc other)
-    of_why refusal.NoMemory (inr other) = absurd (cc other)
+    of_why refusal.NoMemory (inr (inl other)) = absurd (cc other)
+    of_why refusal.NoMemory (inr (inr other)) = absurd (cc other)
     of_why refusal.NoArchive (inl other) = absurd (cc other)
-    of_why refusal.NoArchive (inr other) = absurd (cc other)
+    of_why refusal.NoArchive (inr (inl other)) = absurd (cc other)
+    of_why refusal.NoArchive (inr (inr other)) = absurd (cc other)
     of_why (refusal.Damaged file at) (inl other) = absurd (cc other)
-    of_why (refusal.Damaged file at) (inr other) = absurd (cc other)
+    of_why (refusal.Damaged file at) (inr (inl other)) = absurd (cc other)
+    of_why (refusal.Damaged file at) (inr (inr other)) = absurd (cc other)
 
     to_why : (w : OpenRefusal) → not_opened w ≡ not_opened refusal.DiskFault → IsFault (Unopened w)
-    to_why refusal.DiskFault same = inr refl
+    to_why refusal.DiskFault same = inr (inl refl)
     to_why refusal.NoMemory same = absurd (cc same)
     to_why refusal.NoArchive same = absurd (cc same)
     to_why (refusal.Damaged file at) same = absurd (cc same)
@@ -127,7 +137,24 @@ answered-cause before mid now reply same rose = record {
   where
     of_answer : IsFault (Answered reply) → reply ≡ answer.DiskFault
     of_answer (inl same_outcome) = cc same_outcome
-    of_answer (inr other) = absurd (cc other)
+    of_answer (inr (inl other)) = absurd (cc other)
+    of_answer (inr (inr other)) = absurd (cc other)
+
+-- How a conversion ended is told by its outcome.
+conversion-fault : (entries : ℕ) (result : Result (Unit {0}) ConvertRefusal) → IsFault (conversion_outcome entries result) → result ≡ Err converting.DiskFault
+conversion-fault entries (Ok done) (inl other) = absurd (cc other)
+conversion-fault entries (Ok done) (inr (inl other)) = absurd (cc other)
+conversion-fault entries (Ok done) (inr (inr other)) = absurd (cc other)
+conversion-fault entries (Err why) (inl other) = absurd (cc other)
+conversion-fault entries (Err why) (inr (inl other)) = absurd (cc other)
+conversion-fault entries (Err why) (inr (inr same)) = let is : why ≡ converting.DiskFault = cc same in ap (λ (w : ConvertRefusal). Err w) is
+
+pub converted-cause : (before mid now entries : ℕ) (result : Result (Unit {0}) ConvertRefusal) (o : Outcome) → o ≡ conversion_outcome entries result → mid ≡ before → RoseIf (result ≡ Err converting.DiskFault) mid now → RoseIf (IsFault o) before now
+converted-cause before mid now entries result o is same rose = record {
+  later = omega (arith, same, rose.later);
+  failed = λ fault. (let risen : Rose mid now = rose.failed (conversion-fault entries result (subst IsFault is fault)) in omega (arith, same, risen));
+  kept = λ free. rose.kept (λ fault. free (inr (inr (is ∙ ap (conversion_outcome entries) fault)))) ∙ same;
+}
 
 -- What a refusal to open leaves of an archive that a command was for.
 pub unopened-takes : (way : WriteKind) (cache : List ℕ) (a : Archive) (wanted : Done) (why : OpenRefusal) (old new : Option Content) → ReadsWith cache a old → IsWant why → LeavesKindly why old new → TakesTo way cache a wanted (Unopened why) new
@@ -207,7 +234,7 @@ module _ {D : Type 0} (g : Disk D)
     (counts_now : (disk : D) (t : ℕ) (image : Files) → t ≤ g.moment disk → Image (g.content disk) image → g.left_since disk t image)
     (reads_fit : (disk : D) → ReadsFit (g.content disk)) where
   -- What a crash leaves after a run it leaves now.
-  now-left : (old new : D) (P : Files → Type 0) → LeavesOnly g old new P → (image : Files) → Image (g.content new) image → P image
+  pub now-left : (old new : D) (P : Files → Type 0) → LeavesOnly g old new P → (image : Files) → Image (g.content new) image → P image
   now-left old new P run image left = run.each image (counts_now new (g.moment old) image run.later left)
 
   -- The disk of one archive, with its cache or with none.
@@ -242,16 +269,20 @@ module _ {D : Type 0} (g : Disk D)
   unopened-stands s cache old new refusal.DiskFault all before want first = (s, failed-stands s cache old new all before, refl)
   unopened-stands s cache old new refusal.NoMemory all before want first = synced-stands s cache old new all first
 
-  -- A command didn't run, since the archive wasn't opened.
-  pub unopened-runs : (old new : D) (way : WriteKind) (wanted : Archive → Done) → SyncsAtMost g old new → RunsOrStays g old new (LeavesEither way wanted)
-  unopened-runs old new way wanted (inl only) = inl only
-  unopened-runs old new way wanted (inr first) = inr (record {
+  -- Nothing was run, since the archive wasn't opened.
+  pub unopened-leaves : (old new : D) (leaves : List ℕ → Archive → Files → Type 0) → ((cache : List ℕ) (a : Archive) (image : Files) → RecoversWith cache image a → leaves cache a image) → SyncsAtMost g old new → RunsOrStays g old new leaves
+  unopened-leaves old new leaves stays (inl only) = inl only
+  unopened-leaves old new leaves stays (inr first) = inr (record {
     synced = first.synced;
     only = first.only;
     before = first.before;
-    after = λ a cache reads. weaker g first.synced new (λ (i : Files). RecoversWith cache i a) (LeavesEither way wanted cache a) (first.after a cache reads) (λ image one. inl one);
+    after = λ a cache reads. weaker g first.synced new (λ (i : Files). RecoversWith cache i a) (leaves cache a) (first.after a cache reads) (stays cache a);
     none = first.none;
   })
+
+  -- So it is of a command.
+  pub unopened-runs : (old new : D) (way : WriteKind) (wanted : Archive → Done) → SyncsAtMost g old new → RunsOrStays g old new (LeavesEither way wanted)
+  unopened-runs old new way wanted before = unopened-leaves old new (LeavesEither way wanted) (λ cache a image one. inl one) before
 
   -- An archive was opened.
   module _ (old opened : D) (v : StoreState) (done : (a : Archive) (cache : List ℕ) → ReadsWith cache a (g.content old) → IsStoreWith v cache a (g.content opened)) (first : SyncsFirst g old opened) where
@@ -259,16 +290,21 @@ module _ {D : Type 0} (g : Disk D)
     pub opened-stands : (s : LastKnown) (cache : List ℕ) → StandsAs cache s (g.content old) → (t : LastKnown) × StandsAs cache t (g.content opened) × (Settles s t × IsReadAs t.archive (g.content old))
     opened-stands s cache all = synced-stands s cache old opened all first
 
+    -- Something was done, after which a crash leaves this.
+    pub opened-leaves : (new : D) (leaves : List ℕ → Archive → Files → Type 0) → ((cache : List ℕ) (a : Archive) (image : Files) → RecoversWith cache image a → leaves cache a image) → ((a : Archive) (cache : List ℕ) → IsStoreWith v cache a (g.content opened) → LeavesOnly g opened new (leaves cache a)) → WhereTold (λ (k : Content). OpensFiles (as_read k) (Ok v)) (g.content old)
+        → RunsOrStays g old new leaves
+    opened-leaves new leaves stays left answer = inr (record {
+      synced = first.synced;
+      only = first.only;
+      before = first.before;
+      after = λ a cache reads. joined g first.synced opened new (λ (i : Files). RecoversWith cache i a) (leaves cache a) (leaves cache a) (first.after a cache reads) (left a cache (done a cache reads)) (stays cache a) (λ image either. either);
+      none = λ none. absurd (opened-none v (g.content old) answer none);
+    })
+
     -- A command was taken.
     module _ (new : D) (way : WriteKind) (wanted : Archive → Done) (left : (a : Archive) (cache : List ℕ) → IsStoreWith v cache a (g.content opened) → LeavesOnly g opened new (LeavesEither way wanted cache a)) where
       pub taken-runs : WhereTold (λ (k : Content). OpensFiles (as_read k) (Ok v)) (g.content old) → RunsOrStays g old new (LeavesEither way wanted)
-      taken-runs answer = inr (record {
-        synced = first.synced;
-        only = first.only;
-        before = first.before;
-        after = λ a cache reads. joined g first.synced opened new (λ (i : Files). RecoversWith cache i a) (LeavesEither way wanted cache a) (LeavesEither way wanted cache a) (first.after a cache reads) (left a cache (done a cache reads)) (λ image one. inl one) (λ image either. either);
-        none = λ none. absurd (opened-none v (g.content old) answer none);
-      })
+      taken-runs answer = opened-leaves new (LeavesEither way wanted) (λ cache a image one. inl one) left answer
 
       module _ (s : LastKnown) (b : Archive) (own cache : List ℕ) (found : IsFound s b) (reads : ReadsWith own b (g.content old)) (kept : (own ≡ cache) ⊎ (own ≡ [])) where
         -- The disk of a store's archive, whose cache is that of the one that was found, or none.

@@ -4,7 +4,7 @@ use Rattle.std.proofs.lemmas.Fmt.{decimal_injective}
 use Rattle.arch_base.specs.declared.config.Config.{Config}
 use Rattle.archive_cli.specs.Words.{AreMakingWords, AreNumberWords, IsLoad, IsJob, AsksFor, config_of, setting_word, serve_word}
 use Rattle.archive_cli.specs.declared.words.Job.{Job}
-use Rattle.archive_cli.specs.declared.words.Job.TheVariants.{Help, Version, Replay, Load, Init, Deliver, Remove, Purge, Edit, Reindex, Check, Serve}
+use Rattle.archive_cli.specs.declared.words.Job.TheVariants.{Help, Version, Replay, Load, Init, Deliver, Remove, Purge, Edit, Reindex, Check, Convert, Serve}
 use Rattle.archive_cli.specs.declared.words.Setting.{Setting}
 use Rattle.archive_cli.proofs.Grammar.{head-word, tail-words, same_made, same-serve}
 
@@ -21,6 +21,7 @@ first_word (Purge number) = codes "purge"
 first_word (Edit number) = codes "edit"
 first_word Reindex = codes "reindex"
 first_word Check = codes "check"
+first_word Convert = codes "convert"
 first_word (Serve turns port) = codes "serve"
 
 -- Its first byte and its third tell the job.
@@ -40,6 +41,7 @@ begins words (Purge number) r = (decimal number ∷ [], r.is)
 begins words (Edit number) r = (decimal number ∷ [], r.is)
 begins words Reindex e = ([], e)
 begins words Check e = ([], e)
+begins words Convert e = ([], e)
 begins words (Serve turns port) s = (map serve_word s.options, s.is)
 
 same-first : (words : List (List ℕ)) (a b : Job) → AsksFor words a → AsksFor words b → first_word a ≡ first_word b
@@ -79,6 +81,7 @@ same-job words Version Version x y = refl
 same-job words Deliver Deliver x y = refl
 same-job words Reindex Reindex x y = refl
 same-job words Check Check x y = refl
+same-job words Convert Convert x y = refl
 same-job words (Replay c) (Replay d) x y = ap Replay (same-after (codes "replay") words x.after y.after x.settings y.settings c d x.is y.is x.made y.made)
 same-job words (Init c) (Init d) x y = ap Init (same-after (codes "init") words x.after y.after x.settings y.settings c d x.is y.is x.made y.made)
 same-job words (Load c s) (Load d t) x y = let is = same-load words c s d t x y in (λ i. Load (is.0 i) (is.1 i))

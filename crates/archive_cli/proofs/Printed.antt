@@ -24,15 +24,15 @@ use Rattle.disk_model.specs.Disk.{Content}
 use Rattle.edge_io.specs.Coming.{Moments, IsFirstMoment, after_first}
 use Rattle.archive_cli.specs.Outcomes.{outcome_line, status_of}
 use Rattle.archive_cli.specs.declared.outcome.Outcome.{Outcome}
-use Rattle.archive_cli.specs.declared.outcome.Outcome.TheVariants.{Made, Exists, Reindexed, Checked, Answered, Unopened}
-use Rattle.archive_cli.specs.Program.{RunState, all_edges, NoneFailed, JobActs, JobEnds, InitActs, CommandActs, MessageActs, putting, putting_answers, putting_files, putting_way, AsksForMessage, AsksForCommand, ReindexActs, CheckActs, PlaysPart, IsInput, IsDue, unasked, RunEnds, Ran, input_limit, message_of, TookAtMost}
+use Rattle.archive_cli.specs.declared.outcome.Outcome.TheVariants.{Made, Exists, Reindexed, Checked, Converted, Unconverted, Answered, Unopened}
+use Rattle.archive_cli.specs.Program.{RunState, all_edges, NoneFailed, JobActs, JobEnds, InitActs, CommandActs, MessageActs, putting, putting_answers, putting_files, putting_way, AsksForMessage, AsksForCommand, ReindexActs, CheckActs, ConvertActs, PlaysPart, IsInput, IsDue, unasked, RunEnds, Ran, input_limit, message_of, TookAtMost}
 use Rattle.archive_cli.specs.Printing.{Printed, Exactly, IsLoadDue, IsReplayDue, Replayed, IsPieceRead, JobDone, InputDone, IsInputUnread}
 use Rattle.archive_cli.specs.declared.status.Status.{Status}
 use Rattle.archive_cli.specs.declared.status.Status.TheVariants as exit
 use Rattle.archive_cli.specs.declared.reading.InputRefusal.{InputRefusal}
 use Rattle.archive_cli.specs.declared.reading.InputRefusal.TheVariants.{Fault, TooLong, NoMemory}
 use Rattle.archive_cli.specs.declared.words.Job.{Job}
-use Rattle.archive_cli.specs.declared.words.Job.TheVariants.{Replay, Load, Init, Deliver, Edit, Reindex, Check, Serve}
+use Rattle.archive_cli.specs.declared.words.Job.TheVariants.{Replay, Load, Init, Deliver, Edit, Reindex, Check, Convert, Serve}
 
 module _ (out : Option (List ℕ)) (lost : ℕ) (out' : Option (List ℕ)) (lost' : ℕ) where
   -- What is due by one rule is due by another.
@@ -173,6 +173,13 @@ ran-checked words status i j o asked acts p =
     ran-printed words given.0 status i j (Exactly (whole_line (outcome_line o)) (status_of o)) given.1
     (λ s printed e. inl (record { job = Some Check; asked = asked; ends = record { outcome = o; acts = acts; status_is = e.status_is; printed_is = e.words_is } })) p
 
+-- A conversion is a run.
+pub ran-converted : (words : List (List ℕ)) (status : Status) (i j : RunState) (o : Outcome) → AsksFor words Convert → JobActs ConvertActs unasked i j o → Printed (Exactly (whole_line (outcome_line o)) (status_of o)) status i.taken i.lost j.taken j.lost → Ran words status i j
+ran-converted words status i j o asked acts p =
+    let given = some-input i.left in
+    ran-printed words given.0 status i j (Exactly (whole_line (outcome_line o)) (status_of o)) given.1
+    (λ s printed e. inl (record { job = Some Convert; asked = asked; ends = record { outcome = o; acts = acts; status_is = e.status_is; printed_is = e.words_is } })) p
+
 -- Serving is a run.
 pub ran-served : (words : List (List ℕ)) (turns port : ℕ) (run : ServeRun) (status : Status) (i j : RunState) → AsksFor words (Serve turns port) → (run ≡ Shut opening.DiskFault → Rose i.broken j.broken) → j.unread ≡ i.unread → j.missed ≡ i.missed → j.coming ≡ i.coming
     → Printed (Exactly (run_line run) (run_status run)) status i.taken i.lost j.taken j.lost → Ran words status i j
@@ -210,6 +217,8 @@ message-as place bytes input way keeps may wanted way_is files answers is front 
     reply Exists never = absurd never
     reply (Reindexed live) never = absurd never
     reply (Checked entries live next) never = absurd never
+    reply (Converted entries) never = absurd never
+    reply (Unconverted why) never = absurd never
     reply (Answered r) has = answers r has
     reply (Unopened why) has = tt
 

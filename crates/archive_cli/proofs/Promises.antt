@@ -61,9 +61,10 @@ taken-ready g false old s command moment new reply t is taken = absurd (cc is)
 
 module _ {D : Type 0} (g : Disk D) where
   pub nothing-lost : NothingIsLost g
-  nothing-lost found old opened new next arrivals first stages last command moment o served acts =
-      let came = acts.stands served.runs.after served.stands.0 served.stands.1 in
-      (came.0, served.stands.0, came.1, came.2)
+  nothing-lost found old opened new next arrivals first stages last command moment o served = (
+    λ acts. (let came = acts.stands served.runs.after served.stands.0 served.stands.1 in (came.0, served.stands.0, came.1, came.2)),
+    λ acts. (let came = acts.stands served.runs.after served.stands.0 served.stands.1 in (came.0, served.stands.0, came.1, came.2)),
+  )
 
   pub numbers-name : FollowsItself → FollowsThrough → NumbersStay → NumbersNameOne g
   numbers-name itself through stay found old opened new arrivals first stages last served = all-ordered itself through stay found (passed_in served.runs.turns) served.numbers

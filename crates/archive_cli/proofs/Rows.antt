@@ -4,6 +4,7 @@ use Rattle.std.proofs.Common.{◌∙◌, map, sym, ap, subst, inl, inr, arith}
 use Rattle.std.proofs.lemmas.Bool.{false≢true}
 use Rattle.std.specs.Borrow.{Bor}
 use Rattle.arch_base.specs.declared.config.Config.{Config}
+use Rattle.arch_base.specs.declared.ids.Form.TheVariants.{Sha256}
 use Rattle.disk_model.specs.Disk.{Files, Content, Image, WhereTold}
 use Rattle.edge_io.specs.Coming.{IsFirstMoment, after_first}
 use Rattle.arch_model.specs.Archives.{Archive, empty_archive, live, text_of}
@@ -21,19 +22,22 @@ use Rattle.arch_model.proofs.Keepers.{found-one}
 use Rattle.epoch_store.specs.Opens.{RecoversOf}
 use Rattle.epoch_store.specs.Promises.{Appends, Renews}
 use Rattle.store_finding.specs.Kept.{StoreState, IsDiskOf}
+use Rattle.convert_planning.specs.Converting.{converted}
+use Rattle.convert_planning.specs.Laws.{ConversionFollows}
+use Rattle.epoch_store.specs.declared.convert_refusal.ConvertRefusal.TheVariants as converting
 use Rattle.archive_core.specs.Engines.{store-recovers}
 use Rattle.archive_core.proofs.Engines.{recovers_either}
 use Rattle.archive_cli.specs.declared.outcome.Outcome.{Outcome}
-use Rattle.archive_cli.specs.declared.outcome.Outcome.TheVariants.{Made, Exists, Reindexed, Checked, Answered, Unopened}
+use Rattle.archive_cli.specs.declared.outcome.Outcome.TheVariants.{Made, Exists, Reindexed, Checked, Converted, Unconverted, Answered, Unopened}
 use Rattle.archive_cli.specs.declared.status.Status.{Status}
 use Rattle.archive_cli.specs.declared.status.Status.TheVariants as exit
 use Rattle.archive_cli.specs.declared.words.Job.{Job}
-use Rattle.archive_cli.specs.declared.words.Job.TheVariants.{Help, Version, Replay, Load, Init, Deliver, Remove, Purge, Edit, Reindex, Check, Serve}
+use Rattle.archive_cli.specs.declared.words.Job.TheVariants.{Help, Version, Replay, Load, Init, Deliver, Remove, Purge, Edit, Reindex, Check, Convert, Serve}
 use Rattle.archive_core.specs.Commands.{AnswersPurge, AnswersRemoval}
-use Rattle.archive_cli.specs.DiskCommands.{IsMadeDisk, MakesDisk, StandsAs, StaysUnopened, CommandTakes, ReindexesOn, ChecksOn, delivering, removing, purging, editing}
-use Rattle.archive_cli.specs.Laws.{WithMessage, WithRemoval, WithPurge, WithEdit, Goes, RunsInARow}
+use Rattle.archive_cli.specs.DiskCommands.{IsMadeDisk, MakesDisk, StandsAs, StandsInDoubt, StaysUnopened, CommandTakes, ConvertsOn, ReindexesOn, ChecksOn, delivering, removing, purging, editing}
+use Rattle.archive_cli.specs.Laws.{WithMessage, WithRemoval, WithPurge, WithEdit, WithNewIds, Goes, RunsInARow}
 use Rattle.archive_cli.specs.Outcomes.{status_of}
-use Rattle.archive_cli.specs.Program.{RunState, JobEnds, InitActs, CommandActs, MessageActs, ReindexActs, CheckActs, IsDue, RunEnds, Ran, IsInput, IsOnArchive, AsksForInit, AsksOfArchive, message_of, made_at, unasked, any_files, purge_files}
+use Rattle.archive_cli.specs.Program.{RunState, JobEnds, InitActs, CommandActs, MessageActs, ReindexActs, CheckActs, ConvertActs, IsDue, RunEnds, Ran, IsInput, IsOnArchive, AsksForInit, AsksOfArchive, message_of, made_at, unasked, any_files, purge_files}
 use Rattle.archive_cli.specs.Statuses.{code_of}
 use Rattle.archive_cli.specs.Words.{AsksFor, IsJob, serve_word}
 
@@ -43,7 +47,7 @@ other-words c d x y xs ys apart same = apart (ap (λ (words : List (List ℕ)). 
 
 -- Whether the first word is that of a job on the archive: by its first and its third byte.
 abbrev is_on : ℕ → Bool
-is_on tag = tag == 100108 || (tag == 114109 || (tag == 112114 || (tag == 101105 || (tag == 114105 || tag == 99101))))
+is_on tag = tag == 100108 || (tag == 114109 || (tag == 112114 || (tag == 101105 || (tag == 114105 || (tag == 99101 || tag == 99110)))))
 
 abbrev asks_on : List (List ℕ) → Bool
 asks_on words = is_on (1000 * get_or (get_or words 0 []) 0 0 + get_or (get_or words 0 []) 2 0)
@@ -55,6 +59,7 @@ on-asked words (Purge number) on asked = ap asks_on asked.is
 on-asked words (Edit number) on asked = ap asks_on asked.is
 on-asked words Reindex on asked = ap asks_on asked
 on-asked words Check on asked = ap asks_on asked
+on-asked words Convert on asked = ap asks_on asked
 on-asked words Help never asked = absurd never
 on-asked words Version never asked = absurd never
 on-asked words (Replay config) never asked = absurd never
@@ -69,6 +74,7 @@ asked-on words (Purge number) on asked = tt
 asked-on words (Edit number) on asked = tt
 asked-on words Reindex on asked = tt
 asked-on words Check on asked = tt
+asked-on words Convert on asked = tt
 asked-on words Help on asked = false≢true (sym (ap asks_on asked) ∙ on)
 asked-on words Version on asked = false≢true (sym (ap asks_on asked) ∙ on)
 asked-on words (Replay config) on asked = false≢true (sym (ap asks_on asked.is) ∙ on)
@@ -87,6 +93,7 @@ only-makes words Help asked also = absurd (other-words 105 45 (codes "nit") (cod
 only-makes words Version asked also = absurd (other-words 105 45 (codes "nit") (codes "-version") asked.1.after [] (omega arith) (sym asked.1.is ∙ also))
 only-makes words Reindex asked also = absurd (other-words 105 114 (codes "nit") (codes "eindex") asked.1.after [] (omega arith) (sym asked.1.is ∙ also))
 only-makes words Check asked also = absurd (other-words 105 99 (codes "nit") (codes "heck") asked.1.after [] (omega arith) (sym asked.1.is ∙ also))
+only-makes words Convert asked also = absurd (other-words 105 99 (codes "nit") (codes "onvert") asked.1.after [] (omega arith) (sym asked.1.is ∙ also))
 only-makes words (Replay config) asked also = absurd (other-words 105 114 (codes "nit") (codes "eplay") asked.1.after also.after (omega arith) (sym asked.1.is ∙ also.is))
 only-makes words Deliver asked also = absurd (other-words 105 100 (codes "nit") (codes "eliver") asked.1.after [] (omega arith) (sym asked.1.is ∙ also))
 only-makes words (Remove number) asked also = absurd (other-words 105 114 (codes "nit") (codes "emove") asked.1.after (decimal number ∷ []) (omega arith) (sym asked.1.is ∙ also.is))
@@ -95,9 +102,9 @@ only-makes words (Edit number) asked also = absurd (other-words 105 101 (codes "
 only-makes words (Load count seed) asked also = absurd (other-words 105 108 (codes "nit") (codes "oad") asked.1.after (decimal count ∷ decimal seed ∷ []) (omega arith) (sym asked.1.is ∙ also.is))
 only-makes words (Serve turns port) asked also = absurd (other-words 105 115 (codes "nit") (codes "erve") asked.1.after (map serve_word also.options) (omega arith) (sym asked.1.is ∙ also.is))
 
--- The archive is the same, or what the command of the words makes of it.
+-- The archive is the same, or what the command or the conversion of the words makes of it.
 abbrev FromBy : List (List ℕ) → RunState → Archive → Archive → Type 0
-FromBy words i old new = (new ≡ old) ⊎ (WithMessage words i old new ⊎ (WithRemoval words i old new ⊎ (WithPurge words old new ⊎ WithEdit words i old new)))
+FromBy words i old new = (new ≡ old) ⊎ (WithMessage words i old new ⊎ (WithRemoval words i old new ⊎ (WithPurge words old new ⊎ (WithEdit words i old new ⊎ WithNewIds words old new))))
 
 -- Each archive of one standing goes on from one of another.
 abbrev Steps : List (List ℕ) → RunState → LastKnown → LastKnown → Type 0
@@ -122,6 +129,8 @@ module _ (words : List (List ℕ)) (i : RunState) where
   steps-reindexed s t old (Unopened why) stays = steps-unopened s t old why stays
   steps-reindexed s t old (Made name) never = absurd never
   steps-reindexed s t old Exists never = absurd never
+  steps-reindexed s t old (Converted entries) never = absurd never
+  steps-reindexed s t old (Unconverted why) never = absurd never
   steps-reindexed s t old (Checked entries live next) never = absurd never
   steps-reindexed s t old (Answered reply) never = absurd never
 
@@ -130,8 +139,37 @@ module _ (words : List (List ℕ)) (i : RunState) where
   steps-checked s t old (Unopened why) stays = steps-unopened s t old why stays
   steps-checked s t old (Made name) never = absurd never
   steps-checked s t old Exists never = absurd never
+  steps-checked s t old (Converted entries) never = absurd never
+  steps-checked s t old (Unconverted why) never = absurd never
   steps-checked s t old (Reindexed live) never = absurd never
   steps-checked s t old (Answered reply) never = absurd never
+
+  steps-converted : AsksFor words Convert → (s t : LastKnown) (old : Option Content) (o : Outcome) → ConvertsOn s old o t → Steps words i s t
+  steps-converted asked s t old (Converted entries) done = by where
+    by : Steps words i s t
+    by b (inl is) = (done.found, done.is_found, inr (inr (inr (inr (inr (record { asked = asked; taken = done.stands.0; is = is ∙ ap (λ (x : LastKnown). x.archive) done.stands.1 }))))))
+    by b (inr in_doubt) = absurd (let no : None ≡ Some b = sym (ap (λ (x : LastKnown). x.in_doubt) done.stands.1) ∙ in_doubt in cc)
+  steps-converted asked s t old (Unconverted converting.DiskFault) failed = by failed.stands where
+    by : StandsInDoubt failed.found t → Steps words i s t
+    by (inl same) b (inl is) = (failed.found, failed.is_found, inl (is ∙ ap (λ (x : LastKnown). x.archive) same))
+    by (inl same) b (inr in_doubt) = absurd (let no : None ≡ Some b = sym (ap (λ (x : LastKnown). x.in_doubt) same) ∙ in_doubt in cc)
+    by (inr (taken, same)) b (inl is) = (failed.found, failed.is_found, inl (is ∙ ap (λ (x : LastKnown). x.archive) same))
+    by (inr (taken, same)) b (inr in_doubt) =
+        let one : Some b ≡ Some (converted Sha256 failed.found) = sym in_doubt ∙ ap (λ (x : LastKnown). x.in_doubt) same in
+        let is : b ≡ converted Sha256 failed.found = cc in
+        (failed.found, failed.is_found, inr (inr (inr (inr (inr (record { asked = asked; taken = taken; is = is }))))))
+  steps-converted asked s t old (Unconverted converting.IsMirror) settles = steps-settled s t settles.0
+  steps-converted asked s t old (Unconverted converting.Already) settles = steps-settled s t settles.0
+  steps-converted asked s t old (Unconverted (converting.Collision number)) settles = steps-settled s t settles.0
+  steps-converted asked s t old (Unconverted converting.NoMemory) settles = steps-settled s t settles.0
+  steps-converted asked s t old (Unconverted (converting.Damaged file offset)) settles = steps-settled s t settles.0
+  steps-converted asked s t old (Unconverted (converting.Open why)) settles = steps-settled s t settles.0
+  steps-converted asked s t old (Unopened why) stays = steps-unopened s t old why stays
+  steps-converted asked s t old (Made name) never = absurd never
+  steps-converted asked s t old Exists never = absurd never
+  steps-converted asked s t old (Reindexed live) never = absurd never
+  steps-converted asked s t old (Checked entries live next) never = absurd never
+  steps-converted asked s t old (Answered reply) never = absurd never
 
   module _ (wanted : Archive → Done) (goes : (a b : Archive) → b ≡ (wanted a).archive → FromBy words i a b) where
     module _ (s : LastKnown) (a : Archive) (found : IsFound s a) (t : LastKnown) where
@@ -176,6 +214,8 @@ module _ (words : List (List ℕ)) (i : RunState) where
     steps-done s t old (Unopened why) stays = steps-unopened s t old why stays
     steps-done s t old (Made name) never = absurd never
     steps-done s t old Exists never = absurd never
+    steps-done s t old (Converted entries) never = absurd never
+    steps-done s t old (Unconverted why) never = absurd never
     steps-done s t old (Reindexed live) never = absurd never
     steps-done s t old (Checked entries live next) never = absurd never
 
@@ -197,7 +237,7 @@ module _ (words : List (List ℕ)) (i : RunState) where
     leads-edited number asked input told status printed ends =
         let at = ends.acts.moment in
         let t = ends.acts.acts.stands s [] all in
-        (t.0, t.1, steps-done (editing number (message_of input) at) (λ a b is. inr (inr (inr (inr (record { number = number; asked = asked; input = input; told = told; at = at; first = ends.acts.first; is = is }))))) s t.0 i.content ends.outcome t.2)
+        (t.0, t.1, steps-done (editing number (message_of input) at) (λ a b is. inr (inr (inr (inr (inl (record { number = number; asked = asked; input = input; told = told; at = at; first = ends.acts.first; is = is })))))) s t.0 i.content ends.outcome t.2)
 
     leads-removed : (number : ℕ) → AsksFor words (Remove number) → (status : Status) (printed : List ℕ) → JobEnds (CommandActs Appends any_files (AnswersRemoval number) (removing number)) after_first i j status printed → Leads s j
     leads-removed number asked status printed ends =
@@ -217,6 +257,9 @@ module _ (words : List (List ℕ)) (i : RunState) where
     leads-checked : (status : Status) (printed : List ℕ) → JobEnds CheckActs unasked i j status printed → Leads s j
     leads-checked status printed ends = let t = ends.acts.acts.stands s [] all in (t.0, t.1, steps-checked s t.0 i.content ends.outcome t.2)
 
+    leads-converted : AsksFor words Convert → (status : Status) (printed : List ℕ) → JobEnds ConvertActs unasked i j status printed → Leads s j
+    leads-converted asked status printed ends = let t = ends.acts.acts.stands s [] all in (t.0, t.1, steps-converted asked s t.0 i.content ends.outcome t.2)
+
     module _ (asked : AsksOfArchive words) where
       leads-does : (input : List ℕ) → IsInput i.left input → (status : Status) (printed : List ℕ) (job : Option Job) → IsJob words job → RunEnds job input i j status printed → Leads s j
       leads-does input told status printed None asks ends = absurd (asks asked.0 asked.2)
@@ -226,6 +269,7 @@ module _ (words : List (List ℕ)) (i : RunState) where
       leads-does input told status printed (Some (Edit number)) asks ends = leads-edited number asks input told status printed ends
       leads-does input told status printed (Some Reindex) asks ends = leads-reindexed status printed ends
       leads-does input told status printed (Some Check) asks ends = leads-checked status printed ends
+      leads-does input told status printed (Some Convert) asks ends = leads-converted asks status printed ends
       leads-does input told status printed (Some Help) asks ends = absurd (only-on words Help asked asks)
       leads-does input told status printed (Some Version) asks ends = absurd (only-on words Version asked asks)
       leads-does input told status printed (Some (Replay config)) asks ends = absurd (only-on words (Replay config) asked asks)
@@ -262,6 +306,8 @@ module _ (words : List (List ℕ)) (asked : AsksForInit words) (i j : RunState) 
   made-by config asks born first Exists makes done = absurd (cc done)
   made-by config asks born first (Reindexed live) makes done = absurd makes
   made-by config asks born first (Checked entries live next) makes done = absurd makes
+  made-by config asks born first (Converted entries) makes done = absurd makes
+  made-by config asks born first (Unconverted why) makes done = absurd makes
   made-by config asks born first (Unopened why) makes done = absurd makes
   made-by config asks born first (Answered answer.DiskFault) makes done = absurd (cc done)
   made-by config asks born first (Answered answer.NoMemory) makes done = absurd (cc done)
@@ -312,7 +358,7 @@ abbrev message : List ℕ → Bor (List ℕ)
 message bytes = record { ref_ptr = (0, 0); now = bytes }
 
 -- Numbers keep their texts on the way, and never name a second one.
-module _ (keeps : KeepsNumbers) (takes : TakesFromView) (itself : FollowsItself) (commands : CommandFollows) where
+module _ (keeps : KeepsNumbers) (takes : TakesFromView) (itself : FollowsItself) (commands : CommandFollows) (converts : ConversionFollows) where
   follows-as : (a b c : Archive) → b ≡ c → Follows a c → Follows a b
   follows-as a b c same follows = subst (λ (x : Archive). Follows a x) (sym same) follows
 
@@ -331,7 +377,12 @@ module _ (keeps : KeepsNumbers) (takes : TakesFromView) (itself : FollowsItself)
     numbers = follows-as a b _ less.is (commands a (command.Remove less.number) less.at);
   }
   goes-by words i a b (inr (inr (inr (inl gone)))) = record { from = inr (inr (inr (inl gone))); texts = λ n text spared unpurged unedited is. absurd (unpurged (gone.number, gone.asked)); numbers = follows-as a b _ gone.is (commands a (command.Purge gone.number) 0) }
-  goes-by words i a b (inr (inr (inr (inr edit)))) = record { from = inr (inr (inr (inr edit))); texts = λ n text spared unpurged unedited is. absurd (unedited (edit.number, edit.asked)); numbers = follows-as a b _ edit.is (commands a (command.Edit edit.number (message (message_of edit.input))) edit.at) }
+  goes-by words i a b (inr (inr (inr (inr (inl edit))))) = record { from = inr (inr (inr (inr (inl edit)))); texts = λ n text spared unpurged unedited is. absurd (unedited (edit.number, edit.asked)); numbers = follows-as a b _ edit.is (commands a (command.Edit edit.number (message (message_of edit.input))) edit.at) }
+  goes-by words i a b (inr (inr (inr (inr (inr anew))))) = record {
+    from = inr (inr (inr (inr (inr anew))));
+    texts = λ n text spared unpurged unedited is. subst (λ (x : Archive). text_of (live x.entries) n ≡ Some text) (sym anew.is) is;
+    numbers = follows-as a b _ anew.is (converts Sha256 a);
+  }
 
   -- The three runs.
   pub in-a-row : RunsInARow

@@ -1,7 +1,8 @@
--- What `init`, `reindex`, `check` and a command on an archive do to a disk, and how they end.
+-- What `init`, `reindex`, `check`, `convert` and a command on an archive do to a disk, and how they end.
 -- `deliver`, `remove`, `purge` and `edit` are such commands.
-use Rattle.std.specs.Prelude.{◌≡◌, ◌⊎◌, ℕ, true, List, length, Option, None, Ok, Err}
+use Rattle.std.specs.Prelude.{◌≡◌, ◌⊎◌, ◌↔◌, ℕ, true, false, List, [], length, Option, Some, None, Result, Ok, Err}
 use Rattle.arch_base.specs.declared.config.Config.{Config}
+use Rattle.arch_base.specs.declared.ids.Form.TheVariants.{Sha256}
 use Rattle.disk_model.specs.declared.disk.Disk.{Ghosts as Disk}
 use Rattle.disk_model.specs.Disk.{Files, Content, Image, BothTold, WhereTold}
 use Rattle.disk_model.specs.Moments.{LeavesOnly}
@@ -24,11 +25,17 @@ use Rattle.epoch_store.specs.First.{first_root_of}
 use Rattle.epoch_store.specs.Promises.{WriteKind, cache_by}
 use Rattle.epoch_store.specs.Opens.{IsOnlySynced, OpensFiles, ReadsWith, SyncsThen}
 use Rattle.store_finding.specs.Kept.{StoreState, IsStoreWith, IsDiskOf}
+use Rattle.store_finding.specs.Recovery.{RecoversWith}
 use Rattle.epoch_store.specs.Commands.{RecoversOneOf}
+use Rattle.epoch_store.specs.Converting.{CollidesAs, ConvertsAny}
+use Rattle.epoch_store.specs.declared.convert_refusal.ConvertRefusal.{ConvertRefusal}
+use Rattle.epoch_store.specs.declared.convert_refusal.ConvertRefusal.TheVariants as converting
+use Rattle.convert_planning.specs.Converting.{converted}
 use Rattle.archive_core.specs.Commands.{DoneBy}
 use Rattle.archive_core.specs.Engines.{AllRecoverOrBare}
+use Rattle.archive_cli.specs.Conversions.{MayConvert, RefusesConversion, SettingsRefuse, TakesConversion}
 use Rattle.archive_cli.specs.declared.outcome.Outcome.{Outcome}
-use Rattle.archive_cli.specs.declared.outcome.Outcome.TheVariants.{Made, Exists, Reindexed, Checked, Answered, Unopened}
+use Rattle.archive_cli.specs.declared.outcome.Outcome.TheVariants.{Made, Exists, Reindexed, Checked, Converted, Unconverted, Answered, Unopened}
 
 -- A disk that is told is the own one of an archive with a cache of these bytes: each crash leaves files
 -- that stand for the archive, and the files are exactly those of the archive.
@@ -107,6 +114,17 @@ ChecksTo cache a (Unopened refusal.DiskFault) new = Unit {0}
 ChecksTo cache a (Unopened refusal.NoMemory) new = ReadsWith cache a new
 ChecksTo cache a other new = ⊥
 
+-- How `convert` ends on the disk of an archive with a cache of these bytes. A converted archive has the
+-- entries that were counted and no cache.
+abbrev pub ConvertsTo : List ℕ → Archive → Outcome → Option Content → Type 0
+ConvertsTo cache a (Converted entries) new = TakesConversion a × (entries ≡ length a.entries)
+    × IsOwnDisk [] (converted Sha256 a) new
+ConvertsTo cache a (Unconverted converting.DiskFault) new = MayConvert a.config
+ConvertsTo cache a (Unconverted why) new = RefusesConversion a why × IsOwnDisk cache a new
+ConvertsTo cache a (Unopened refusal.DiskFault) new = Unit {0}
+ConvertsTo cache a (Unopened refusal.NoMemory) new = ReadsWith cache a new
+ConvertsTo cache a other new = ⊥
+
 -- How a run on opened files ends, whether or not they stand for an archive: with the refusal to
 -- open them, or with what was done with what was found.
 abbrev pub IsOpenedAs : Files → Outcome → Type 0
@@ -114,6 +132,10 @@ IsOpenedAs files (Unopened why) = OpensFiles files (Err why)
 IsOpenedAs files (Reindexed live) = (v : StoreState) × OpensFiles files (Ok v)
 IsOpenedAs files (Checked entries live next) = (v : StoreState) × OpensFiles files (Ok v)
     × (entries ≡ length v.entries) × (next ≡ v.root.next)
+IsOpenedAs files (Converted entries) = (v : StoreState) × OpensFiles files (Ok v)
+    × (entries ≡ length v.entries) × MayConvert v.root.config
+IsOpenedAs files (Unconverted why) = (v : StoreState) × OpensFiles files (Ok v)
+    × SettingsRefuse v.root.config why
 IsOpenedAs files (Answered reply) = (v : StoreState) × OpensFiles files (Ok v)
 IsOpenedAs files (Made name) = ⊥
 IsOpenedAs files Exists = ⊥
@@ -135,6 +157,13 @@ abbrev pub IsCheck : Outcome → Type 0
 IsCheck (Checked entries live next) = Unit {0}
 IsCheck (Unopened why) = Unit {0}
 IsCheck other = ⊥
+
+-- A conversion counts the entries, or is refused, or the archive wasn't opened.
+abbrev pub IsConversion : Outcome → Type 0
+IsConversion (Converted entries) = Unit {0}
+IsConversion (Unconverted why) = Unit {0}
+IsConversion (Unopened why) = Unit {0}
+IsConversion other = ⊥
 
 -- Each crash of the disk leaves files that stand for the archive of a standing, or for the one in
 -- doubt there, with a cache of these bytes or with none. A purge and an edit drop the cache.
@@ -179,6 +208,55 @@ ChecksOn s old (Checked entries live next) t = Settles s t × IsReadAs t.archive
 ChecksOn s old (Unopened why) t = StaysUnopened s old why t
 ChecksOn s old other t = ⊥
 
+-- A conversion of the archive that was found, which is the one as which the disk read, left it so.
+pub record ConvertedOn (s : LastKnown) (old : Option Content) (Leaves : Archive → LastKnown → Type 0)
+    (t : LastKnown) : Type 0 where
+  pub found : Archive
+  pub is_found : IsFound s found
+  pub reads : IsReadAs found old
+  pub stands : Leaves found t
+
+-- After a conversion the archive has SHA-256 ids, and it was one that is converted.
+abbrev pub StandsConverted : Archive → LastKnown → Type 0
+StandsConverted a t = TakesConversion a × (t ≡ standing (converted Sha256 a) None)
+
+-- After a fault that is in doubt, of an archive that is converted. Any other one stands as before.
+abbrev pub StandsInDoubt : Archive → LastKnown → Type 0
+StandsInDoubt a t = (t ≡ standing a None)
+    ⊎ (TakesConversion a × (t ≡ standing a (Some (converted Sha256 a))))
+
+-- The outcome of a conversion of an archive of so many entries.
+abbrev pub conversion_outcome : ℕ → Result (Unit {0}) ConvertRefusal → Outcome
+conversion_outcome entries (Ok done) = Converted entries
+conversion_outcome entries (Err why) = Unconverted why
+
+-- The archive of a store that was opened was converted, or was not, with this outcome.
+pub record ConvertsOpened {D : Type 0} (g : Disk D) (found : StoreState) (old new : D) (o : Outcome)
+    : Type 0 where
+  pub result : Result (Unit {0}) ConvertRefusal
+  pub outcome : o ≡ conversion_outcome (length found.entries) result
+  pub mirror : (result ≡ Err converting.IsMirror) ↔ (found.root.config.mirror ≡ true)
+  pub already : (result ≡ Err converting.Already)
+      ↔ ((found.root.config.mirror ≡ false) × (found.root.config.form ≡ Sha256))
+  pub collision : (a : Archive) (cache : List ℕ) → IsStoreWith found cache a (g.content old)
+      → CollidesAs Sha256 a result
+  pub made : StoreState
+  pub changes : ConvertsAny g old new found made Sha256 result
+
+-- How `convert` leaves a disk that stood so. A refusal leaves the archive that was found.
+abbrev pub ConvertsOn : LastKnown → Option Content → Outcome → LastKnown → Type 0
+ConvertsOn s old (Converted entries) t = ConvertedOn s old StandsConverted t
+ConvertsOn s old (Unconverted converting.DiskFault) t = ConvertedOn s old StandsInDoubt t
+ConvertsOn s old (Unconverted why) t = Settles s t × IsReadAs t.archive old
+ConvertsOn s old (Unopened why) t = StaysUnopened s old why t
+ConvertsOn s old other t = ⊥
+
+-- The files stand for the archive that was found, with its cache; or for it with SHA-256 ids, without, if
+-- it is one that is converted.
+abbrev pub LeavesConverted : List ℕ → Archive → Files → Type 0
+LeavesConverted cache found image = RecoversWith cache image found
+    ⊎ (TakesConversion found × RecoversWith [] image (converted Sha256 found))
+
 -- The files stand for the archive that was found, with its cache, or for what a command makes of it,
 -- with the cache that this kind of command leaves.
 abbrev pub LeavesEither : WriteKind → (Archive → Done) → List ℕ → Archive → Files → Type 0
@@ -195,4 +273,5 @@ RunsOrStays g old new leaves =
 
 -- The outcome tells that the disk failed.
 abbrev pub IsFault : Outcome → Type 0
-IsFault o = (o ≡ Answered answer.DiskFault) ⊎ (o ≡ Unopened refusal.DiskFault)
+IsFault o = (o ≡ Answered answer.DiskFault)
+    ⊎ ((o ≡ Unopened refusal.DiskFault) ⊎ (o ≡ Unconverted converting.DiskFault))

@@ -1,6 +1,7 @@
 -- The laws of transcripts, of the job of a run, and of runs in order.
 use Rattle.std.specs.Prelude.{◌≡◌, ◌⊎◌, ℕ, List, [], Some, Option}
 use Rattle.arch_base.specs.declared.config.Config.{Config}
+use Rattle.arch_base.specs.declared.ids.Form.TheVariants.{Sha256}
 use Rattle.disk_model.specs.declared.disk.Disk.{Ghosts as Disk}
 use Rattle.disk_model.specs.declared.name.FileName.{FileName}
 use Rattle.disk_model.specs.Disk.{Files, Content, Image}
@@ -15,15 +16,17 @@ use Rattle.arch_model.specs.declared.opening.OpenRefusal.TheVariants as opening
 use Rattle.root_slots.specs.RootName.{root_name}
 use Rattle.root_slots.specs.Slots.{IsShutFile}
 use Rattle.store_finding.specs.Recovery.{Recovers}
+use Rattle.convert_planning.specs.Converting.{converted}
 use Rattle.epoch_store.specs.First.{RecoversFirst}
 use Rattle.epoch_store.specs.Opens.{ReadsWith}
 use Rattle.epoch_store.specs.Promises.{Appends, Renews}
 use Rattle.answer_lines.specs.Lines.{whole_line}
 use Rattle.archive_cli.specs.declared.words.Job.{Job}
-use Rattle.archive_cli.specs.declared.words.Job.TheVariants.{Init, Deliver, Remove, Purge, Edit, Reindex, Check}
+use Rattle.archive_cli.specs.declared.words.Job.TheVariants.{Init, Deliver, Remove, Purge, Edit, Reindex, Check, Convert}
 use Rattle.archive_cli.specs.declared.outcome.Outcome.{Outcome}
 use Rattle.archive_cli.specs.declared.status.Status.{Status}
-use Rattle.archive_cli.specs.DiskCommands.{TakesTo, ReindexesTo, ChecksTo, delivering, removing, purging, editing}
+use Rattle.archive_cli.specs.Conversions.{TakesConversion}
+use Rattle.archive_cli.specs.DiskCommands.{TakesTo, ReindexesTo, ChecksTo, ConvertsTo, delivering, removing, purging, editing}
 use Rattle.archive_cli.specs.Jobs.{DueRule, ShortDue}
 use Rattle.archive_cli.specs.Outcomes.{outcome_line, refusal_line, refusal_status, status_of}
 use Rattle.archive_cli.specs.Statuses.{code_of}
@@ -73,12 +76,18 @@ pub record WithEdit (words : List (List ℕ)) (i : RunState) (old new : Archive)
   pub first : IsFirstMoment at i.coming
   pub is : new ≡ (edited old number (message_of input) at).archive
 
--- The archive is the same, as after a reindexing or a check, or what the command of the words makes of
--- it. Each live number keeps its text, unless the words ask to remove that number, or for a purge or
--- an edit. No number names a second message.
+-- The words ask for a conversion, and the archive is one that is converted, with SHA-256 ids.
+pub record WithNewIds (words : List (List ℕ)) (old new : Archive) : Type 0 where
+  pub asked : AsksFor words Convert
+  pub taken : TakesConversion old
+  pub is : new ≡ converted Sha256 old
+
+-- The archive is the same, as after a reindexing or a check, or what the command or the conversion of the
+-- words makes of it. Each live number keeps its text, unless the words ask to remove that number, or for
+-- a purge or an edit. No number names a second message.
 pub record Goes (words : List (List ℕ)) (i : RunState) (old new : Archive) : Type 0 where
   pub from : (new ≡ old) ⊎ (WithMessage words i old new ⊎ (WithRemoval words i old new
-      ⊎ (WithPurge words old new ⊎ WithEdit words i old new)))
+      ⊎ (WithPurge words old new ⊎ (WithEdit words i old new ⊎ WithNewIds words old new))))
   pub texts : (n : ℕ) (text : List ℕ) → (AsksFor words (Remove n) → ⊥)
       → (AsksForPurge words → ⊥) → (AsksForEdit words → ⊥)
       → text_of (live old.entries) n ≡ Some text → text_of (live new.entries) n ≡ Some text
@@ -98,8 +107,8 @@ pub record IsLeft (first second third : List (List ℕ)) (i k m : RunState) (ima
   pub to_two : Goes third m one two
   pub stands : Recovers image two
 
--- Three runs on one disk: `init` that ends with status 0, and two jobs on the archive, each
--- `deliver`, `remove`, `purge`, `edit`, `reindex` or `check`, however these end. So the first of them
+-- Three runs on one disk: `init` that ends with status 0, and two jobs on the archive, each `deliver`,
+-- `remove`, `purge`, `edit`, `reindex`, `check` or `convert`, however these end. So the first of them
 -- may be stopped by a fault of the disk, and may have been done or not; then the second one found its
 -- archive, or the one without messages, and each crash after it leaves that one or what the second
 -- one makes of it.
@@ -136,6 +145,7 @@ EndsOn (Purge number) input at a = TakesTo Renews [] a (purging number at a)
 EndsOn (Edit number) input at a = TakesTo Renews [] a (editing number (message_of input) at a)
 EndsOn Reindex input at a = ReindexesTo [] a
 EndsOn Check input at a = ChecksTo [] a
+EndsOn Convert input at a = ConvertsTo [] a
 EndsOn other input at a = λ o new. ⊥
 
 -- What is due of the job on such a disk, or that memory ran out for its message.
@@ -174,9 +184,9 @@ module _ {D : Type 0} (g : Disk D) where
         × Goes words k (empty_archive (made_at config born)) b × Recovers image b))
 
   -- Two runs on one disk that tells its content, of which each crash left no open slot: `init`, however
-  -- it ends, so also by a fault of the disk that leaves it in doubt; and a command, `reindex` or `check`.
-  -- The second one finds no archive where no slot is open as the files read, and otherwise the one that
-  -- `init` makes.
+  -- it ends, so also by a fault of the disk that leaves it in doubt; and a command, `reindex`, `check` or
+  -- `convert`. The second one finds no archive where no slot is open as the files read, and otherwise the
+  -- one that `init` makes.
   abbrev pub RunAfterInit : Type 0
   RunAfterInit = (first second : List (List ℕ)) (config : Config) (job : Job) (a b : ℕ)
       (i j k l : RunState) (old made from next : D) (c : Content)

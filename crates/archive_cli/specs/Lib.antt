@@ -9,6 +9,7 @@ pub mod Laws
 pub mod Promises
 pub mod Statuses
 pub mod Outcomes
+pub mod Conversions
 pub mod DiskCommands
 pub mod OpenedFiles
 pub mod Options

@@ -6,8 +6,10 @@ use Rattle.arch_model.specs.declared.answer.Answer.TheVariants as answer
 use Rattle.arch_model.specs.declared.opening.OpenRefusal.{OpenRefusal}
 use Rattle.arch_model.specs.declared.opening.OpenRefusal.TheVariants as refusal
 use Rattle.disk_model.specs.declared.name.FileName.{FileName}
+use Rattle.epoch_store.specs.declared.convert_refusal.ConvertRefusal.{ConvertRefusal}
+use Rattle.epoch_store.specs.declared.convert_refusal.ConvertRefusal.TheVariants as converting
 use Rattle.archive_cli.specs.declared.outcome.Outcome.{Outcome}
-use Rattle.archive_cli.specs.declared.outcome.Outcome.TheVariants.{Made, Exists, Reindexed, Checked, Answered, Unopened}
+use Rattle.archive_cli.specs.declared.outcome.Outcome.TheVariants.{Made, Exists, Reindexed, Checked, Converted, Unconverted, Answered, Unopened}
 use Rattle.archive_cli.specs.declared.status.Status.{Status}
 use Rattle.archive_cli.specs.declared.status.Status.TheVariants as exit
 
@@ -19,6 +21,10 @@ reindexed_line live = codes "reindexed " ++ decimal live
 abbrev pub checked_line : ℕ → ℕ → ℕ → List ℕ
 checked_line entries live next = codes "entries " ++ (decimal entries
     ++ (codes " live " ++ (decimal live ++ (codes " next " ++ decimal next))))
+
+-- The line of an archive that was converted.
+abbrev pub converted_line : ℕ → List ℕ
+converted_line entries = codes "converted " ++ decimal entries
 
 -- The line of a damaged file, and the offset of the damage.
 abbrev pub damage_line : FileName → ℕ → List ℕ
@@ -37,12 +43,25 @@ refusal_line (refusal.Damaged file at) = damage_line file at
 refusal_line refusal.DiskFault = answer_line answer.DiskFault
 refusal_line refusal.NoMemory = answer_line answer.NoMemory
 
+-- The line of an archive that was not converted. A mirror, a collision, a fault and want of memory have
+-- the lines of answers to commands.
+abbrev pub unconverted_line : ConvertRefusal → List ℕ
+unconverted_line converting.IsMirror = answer_line answer.IsMirror
+unconverted_line converting.Already = codes "already converted"
+unconverted_line (converting.Collision number) = answer_line (answer.Collision number)
+unconverted_line converting.DiskFault = answer_line answer.DiskFault
+unconverted_line converting.NoMemory = answer_line answer.NoMemory
+unconverted_line (converting.Damaged file at) = damage_line file at
+unconverted_line (converting.Open why) = refusal_line why
+
 -- The line of how a command ended.
 abbrev pub outcome_line : Outcome → List ℕ
 outcome_line (Made name) = codes "made " ++ name
 outcome_line Exists = codes "exists"
 outcome_line (Reindexed live) = reindexed_line live
 outcome_line (Checked entries live next) = checked_line entries live next
+outcome_line (Converted entries) = converted_line entries
+outcome_line (Unconverted why) = unconverted_line why
 outcome_line (Answered reply) = reply_line reply
 outcome_line (Unopened why) = refusal_line why
 
@@ -68,11 +87,23 @@ refusal_status (refusal.Damaged file at) = exit.Archive
 refusal_status refusal.DiskFault = exit.Disk
 refusal_status refusal.NoMemory = exit.Memory
 
+-- The status for an archive that was not converted.
+abbrev pub conversion_status : ConvertRefusal → Status
+conversion_status converting.IsMirror = exit.Refused
+conversion_status converting.Already = exit.Refused
+conversion_status (converting.Collision number) = exit.Refused
+conversion_status converting.DiskFault = exit.Disk
+conversion_status converting.NoMemory = exit.Memory
+conversion_status (converting.Damaged file at) = exit.Archive
+conversion_status (converting.Open why) = refusal_status why
+
 -- The status of a command.
 abbrev pub status_of : Outcome → Status
 status_of (Made name) = exit.Done
 status_of Exists = exit.Archive
 status_of (Reindexed live) = exit.Done
 status_of (Checked entries live next) = exit.Done
+status_of (Converted entries) = exit.Done
+status_of (Unconverted why) = conversion_status why
 status_of (Answered reply) = answer_status reply
 status_of (Unopened why) = refusal_status why

@@ -26,8 +26,8 @@ use Rattle.epoch_store.specs.Commands.{EditsFiles, KeepsFiles}
 use Rattle.store_finding.specs.declared.entries.StoredEntry.{StoredEntry}
 use Rattle.archive_core.specs.Commands.{AnswersDelivery, AnswersEdit, AnswersPurge, AnswersRemoval, IsEntryOfNumber}
 use Rattle.answer_lines.specs.Lines.{whole_line}
-use Rattle.archive_cli.specs.DiskCommands.{MakesDisk, TakesTo, ReindexesTo, ChecksTo, IsOpenedAs, IsFault, IsReply, IsReindex, IsCheck, StandsAs, CommandTakes, ReindexesOn, ChecksOn, RunsOrStays, LeavesEither, delivering, removing, purging, editing}
-use Rattle.archive_cli.specs.OpenedFiles.{CommitsIfDone, LeavesFiles}
+use Rattle.archive_cli.specs.DiskCommands.{MakesDisk, TakesTo, ReindexesTo, ChecksTo, IsOpenedAs, IsFault, IsReply, IsReindex, IsCheck, IsConversion, StandsAs, CommandTakes, ReindexesOn, ChecksOn, ConvertsOn, ConvertsTo, RunsOrStays, LeavesConverted, LeavesEither, delivering, removing, purging, editing}
+use Rattle.archive_cli.specs.OpenedFiles.{CommitsIfConverted, CommitsIfDone, LeavesFiles}
 use Rattle.archive_cli.specs.Loading.{loaded_line}
 use Rattle.archive_cli.specs.Outcomes.{outcome_line, status_of}
 use Rattle.archive_cli.specs.Statuses.{code_of}
@@ -35,7 +35,7 @@ use Rattle.archive_cli.specs.Words.{IsJob, AsksFor}
 use Rattle.archive_cli.specs.Serving.{ServeRun, Shut, run_status, run_line}
 use Rattle.archive_cli.specs.Turns.{Transcript, TranscriptFront}
 use Rattle.archive_cli.specs.declared.words.Job.{Job}
-use Rattle.archive_cli.specs.declared.words.Job.TheVariants.{Help, Version, Replay, Load, Init, Deliver, Remove, Purge, Edit, Reindex, Check, Serve}
+use Rattle.archive_cli.specs.declared.words.Job.TheVariants.{Help, Version, Replay, Load, Init, Deliver, Remove, Purge, Edit, Reindex, Check, Convert, Serve}
 use Rattle.archive_cli.specs.declared.outcome.Outcome.{Outcome}
 use Rattle.archive_cli.specs.declared.status.Status.{Status}
 use Rattle.archive_cli.specs.declared.status.Status.TheVariants as exit
@@ -228,6 +228,18 @@ pub record CheckActs (moment : ℕ) (old new : Option Content) (o : Outcome) : T
   pub answer : WhereTold (λ k. IsOpenedAs (as_read k) o) old
   pub files : LeavesFiles o old new
 
+-- How `convert` ended, at whatever moment. Whatever the disk stood for, it stands for the converted
+-- archive if it was converted, and otherwise as before; after a fault for either. Whatever its files
+-- held, one root is committed if it was converted, and otherwise, but for a fault of the disk, none.
+pub record ConvertActs (moment : ℕ) (old new : Option Content) (o : Outcome) : Type 0 where
+  pub kind : IsConversion o
+  pub done : (a : Archive) (cache : List ℕ) → ReadsWith cache a old → ConvertsTo cache a o new
+  pub stands : (s : LastKnown) (cache : List ℕ) → StandsAs cache s old → (t : LastKnown)
+      × StandsAs cache t new × ConvertsOn s old o t
+  pub answer : WhereTold (λ k. IsOpenedAs (as_read k) o) old
+  pub files : LeavesFiles o old new
+  pub commits : CommitsIfConverted o old new
+
 -- The moments to come of a clock that isn't asked.
 abbrev pub unasked : Option Moments → Option Moments
 unasked coming = coming
@@ -295,6 +307,7 @@ RunEnds (Some (Edit number)) input i j status printed =
     JobEnds (MessageActs (Some number) (message_of input)) after_first i j status printed
 RunEnds (Some Reindex) input i j status printed = JobEnds ReindexActs unasked i j status printed
 RunEnds (Some Check) input i j status printed = JobEnds CheckActs unasked i j status printed
+RunEnds (Some Convert) input i j status printed = JobEnds ConvertActs unasked i j status printed
 RunEnds (Some (Serve turns port)) input i j status printed = ServeEnds i j status printed
 
 -- What a run of words on an input ends with, by the rules.
@@ -403,7 +416,7 @@ AsksForPurge words = (number : ℕ) × AsksFor words (Purge number)
 abbrev pub AsksForCommand : List (List ℕ) → Type 0
 AsksForCommand words = AsksForMessage words ⊎ (AsksForRemoval words ⊎ AsksForPurge words)
 
--- A job on the archive that is there: a command, a reindexing or a check.
+-- A job on the archive that is there: a command, a reindexing, a check or a conversion.
 abbrev pub IsOnArchive : Job → Type 0
 IsOnArchive Deliver = Unit {0}
 IsOnArchive (Remove number) = Unit {0}
@@ -411,6 +424,7 @@ IsOnArchive (Purge number) = Unit {0}
 IsOnArchive (Edit number) = Unit {0}
 IsOnArchive Reindex = Unit {0}
 IsOnArchive Check = Unit {0}
+IsOnArchive Convert = Unit {0}
 IsOnArchive other = ⊥
 
 -- The words ask for such a job.
@@ -505,7 +519,8 @@ module _ {D : Type 0} (g : Disk D) where
       × CommandLeaves old new coming way (wanted (message_of sent))
 
   -- What a job does to the disk, and what a crash leaves at each moment of it. A reindexing and a
-  -- check change no archive. Nothing is said of `serve`, which has a clause of its own.
+  -- check change no archive. A conversion leaves the archive that was found, or it with SHA-256 ids if it
+  -- is one that is converted. Nothing is said of `serve`, which has a clause of its own.
   abbrev pub JobLeaves : Option Job → D → D → Option (List ℕ) → Option Moments → Type 0
   JobLeaves (Some (Init config)) old new left coming =
       LeavesOnly g old new (InitLeaves config coming (g.content old))
@@ -519,6 +534,7 @@ module _ {D : Type 0} (g : Disk D) where
       MessageLeaves old new left coming Renews (editing number)
   JobLeaves (Some Reindex) old new left coming = SyncsAtMost g old new
   JobLeaves (Some Check) old new left coming = SyncsAtMost g old new
+  JobLeaves (Some Convert) old new left coming = RunsOrStays g old new LeavesConverted
   JobLeaves (Some (Serve turns port)) old new left coming = Unit {0}
   JobLeaves other old new left coming = new ≡ old
 

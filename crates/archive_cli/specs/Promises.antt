@@ -29,8 +29,8 @@ use Rattle.node_serve.specs.Turns.{Turn, passed_in}
 use Rattle.node_serve.specs.Updates.{said_update}
 use Rattle.node_serve.specs.World.{NodeState}
 use Rattle.node_serve.specs.declared.session.Session.{Session}
-use Rattle.archive_cli.specs.DiskCommands.{StandsAs, CommandTakes, taking}
-use Rattle.archive_cli.specs.Program.{CommandActs, ReindexActs}
+use Rattle.archive_cli.specs.DiskCommands.{StandsAs, CommandTakes, ConvertsOn, taking}
+use Rattle.archive_cli.specs.Program.{CommandActs, ConvertActs, ReindexActs}
 use Rattle.archive_cli.specs.Serving.{ServedOn, CrashLeaves}
 use Rattle.archive_cli.specs.declared.outcome.Outcome.{Outcome}
 use Rattle.archive_cli.specs.declared.outcome.Outcome.TheVariants.{Reindexed}
@@ -69,17 +69,20 @@ CommandRan command moment old new o = CommandActs (way_of command) (FilesFor com
     (IsForCommand command) (taking command) moment old new o
 
 module _ {D : Type 0} (g : Disk D) where
-  -- Nothing acknowledged is lost: the next run of a command, after serving ended by itself, finds the
-  -- archive that the last act left, with all that was acknowledged, or the one in doubt there. What a
-  -- crash leaves is said below.
+  -- Nothing acknowledged is lost: the next run of a command or of `convert`, after serving ended by
+  -- itself, finds the archive that the last act left, with all that was acknowledged, or the one in doubt
+  -- there. What a crash leaves is said below.
   abbrev pub NothingIsLost : Type 0
   NothingIsLost = (found : Archive) (old opened new next : D) (arrivals : List Arrival)
       (first : Stage (Owning D)) (stages : List (EventStages (Owning D))) (last : Stage (Owning D))
       (command : Command) (moment : ℕ) (o : Outcome)
       → (served : ServedOn g found old opened new arrivals first stages last)
-      → CommandRan command moment (g.content new) (g.content next) o
+      → (CommandRan command moment (g.content new) (g.content next) o
       → (t : LastKnown) × (cache : List ℕ) × StandsAs cache t (g.content next)
-      × CommandTakes served.runs.after (g.content new) (taking command moment) o t
+      × CommandTakes served.runs.after (g.content new) (taking command moment) o t)
+      × (ConvertActs moment (g.content new) (g.content next) o
+      → (t : LastKnown) × (cache : List ℕ) × StandsAs cache t (g.content next)
+      × ConvertsOn served.runs.after (g.content new) o t)
 
   -- No number names a second message while an archive is served: not in the archive that was found and
   -- one after an act, nor in those after two acts, where the earlier one is valid, as each is that a

@@ -7,7 +7,7 @@ use Rattle.arch_base.specs.declared.config.Config.{Config}
 use Rattle.arch_base.specs.declared.ids.Form.{Form}
 use Rattle.arch_base.specs.declared.ids.Form.TheVariants as form
 use Rattle.archive_cli.specs.declared.words.Job.{Job}
-use Rattle.archive_cli.specs.declared.words.Job.TheVariants.{Help, Version, Replay, Load, Init, Deliver, Remove, Purge, Edit, Reindex, Check, Serve}
+use Rattle.archive_cli.specs.declared.words.Job.TheVariants.{Help, Version, Replay, Load, Init, Deliver, Remove, Purge, Edit, Reindex, Check, Convert, Serve}
 use Rattle.archive_cli.specs.declared.words.ServeOption.{ServeOption}
 use Rattle.archive_cli.specs.declared.words.ServeOption.TheVariants as serving
 use Rattle.archive_cli.specs.declared.words.Setting.{Setting}
@@ -211,6 +211,7 @@ AsksFor words (Purge number) = AreNumberWords (codes "purge") words number
 AsksFor words (Edit number) = AreNumberWords (codes "edit") words number
 AsksFor words Reindex = words ≡ codes "reindex" ∷ []
 AsksFor words Check = words ≡ codes "check" ∷ []
+AsksFor words Convert = words ≡ codes "convert" ∷ []
 AsksFor words (Serve turns port) = IsServe words turns port
 
 -- The job that words ask for, or none if they aren't in the grammar.

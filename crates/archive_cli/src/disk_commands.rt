@@ -1,4 +1,4 @@
-//! The work of `init`, `reindex`, `check` and a command on the archive on a disk.
+//! The work of `init`, `reindex`, `check`, `convert` and a command on the archive on a disk.
 //! Writes the disk; syncs.
 //!
 //! Each takes the disk, and hands it back.
@@ -14,17 +14,19 @@ ghost use Rattle.arch_model.specs.declared.answer.Answer.{Answer};
 ghost use Rattle.store_finding.specs.Files.{as_read};
 ghost use Rattle.epoch_store.specs.First.{MakingLeaves};
 ghost use Rattle.epoch_store.specs.Opens.{ReadsWith, SyncsAtMost};
+ghost use Rattle.epoch_store.specs.Promises.{GoesOnBy};
 ghost use Rattle.store_finding.specs.Kept.{StoreState, IsStoreWith};
 ghost use Rattle.epoch_store.specs.Commands.{StoreHasSizes};
 ghost use Rattle.root_slots.specs.OneRoot.{BeginsRootIn, BeginsNoRoot, BeginsOneRoot};
 ghost use Rattle.archive_core.specs.Commands.{DoneBy, FilesFor, IsForCommand, OnDone, OnRefusal, OnlyLooks, UnlessFault, cache_left, way_of};
-ghost use Rattle.archive_cli.specs.DiskCommands.{MakesDisk, unmade, TakesTo, ReindexesTo, ChecksTo, IsOpenedAs, IsReply, IsReindex, IsCheck, StandsAs, CommandTakes, ReindexesOn, ChecksOn, RunsOrStays, LeavesEither, IsFault, taking};
-ghost use Rattle.archive_cli.specs.OpenedFiles.{CommitsIfDone, CommitsOne, LeavesFiles};
+ghost use Rattle.archive_cli.specs.DiskCommands.{MakesDisk, unmade, TakesTo, ReindexesTo, ChecksTo, ConvertsTo, ConvertsOpened, IsOpenedAs, IsReply, IsReindex, IsCheck, IsConversion, StandsAs, CommandTakes, ReindexesOn, ChecksOn, ConvertsOn, RunsOrStays, LeavesConverted, LeavesEither, IsFault, taking};
+ghost use Rattle.archive_cli.specs.OpenedFiles.{CommitsIfConverted, CommitsIfDone, CommitsOne, LeavesFiles};
 
 use crate::outcome::Outcome;
 use arch_base::Config;
 use arch_model::{Answer, Command};
 use archive_core::{CountedArchive, DiskArchive, Engine, NotMade, NotOpened};
+use convert_planning::law_of_collisions;
 use disk_model::Disk;
 use epoch_store::InitRefusal;
 use std::alloc::Global;
@@ -107,8 +109,8 @@ fn answered<D: Disk>(
         → IsStoreWith archive cache a (D.content disk.old) → (v : StoreState)
         × DoneBy v cache (cache_left command.now cache) a (taking command.now moment a) result
         (D.content disk.new) }
-    ensures commits { OnDone result (CommitsOne (way_of command.now) (FilesFor command.now) archive
-        (D.content disk.old) (D.content disk.new)) }
+    ensures commits { OnDone result (CommitsOne (GoesOnBy (way_of command.now))
+        (FilesFor command.now) archive (D.content disk.old) (D.content disk.new)) }
     ensures untouched { OnRefusal result (UnlessFault result
         (OnlyLooks D.Disk disk.old disk.new)) }
     ensures crash_root { BeginsRootIn D.Disk (1 - archive.slot) disk.old disk.new }
@@ -175,5 +177,43 @@ pub(crate) fn check<D: Disk>(alloc: Global, disk: D) -> (Outcome, D)
             (counts, disk)
         }
         Err(why) => (Outcome::Unopened(why), disk),
+    }
+}
+
+/// Converts the archive on a disk to SHA-256 ids, and counts its entries.
+pub(crate) fn convert<D: Disk>(alloc: Global, disk: D) -> (Outcome, D)
+    ensures crash { RunsOrStays D.Disk disk result.1 LeavesConverted }
+    ensures crash_root { BeginsOneRoot D.Disk disk result.1 }
+    ensures stands { (s : LastKnown) (cache : List ℕ) → StandsAs cache s (D.content disk)
+        → (t : LastKnown) × StandsAs cache t (D.content result.1)
+        × ConvertsOn s (D.content disk) result.0 t }
+    ensures done { (a : Archive) (cache : List ℕ) → ReadsWith cache a (D.content disk)
+        → ConvertsTo cache a result.0 (D.content result.1) }
+    ensures answer { WhereTold (λ k. IsOpenedAs (as_read k) result.0) (D.content disk) }
+    ensures files { LeavesFiles result.0 (D.content disk) (D.content result.1) }
+    ensures commits { CommitsIfConverted result.0 (D.content disk) (D.content result.1) }
+    ensures kind { IsConversion result.0 }
+    ensures cause { RoseIf (IsFault result.0) (D.faults disk) (D.faults result.1) }
+{
+    law_of_collisions();
+    let mut disk = disk;
+    match CountedArchive::open(alloc, &mut disk) {
+        Ok(counted) => {
+            let outcome = converted(alloc, counted, &mut disk);
+            (outcome, disk)
+        }
+        Err(why) => (Outcome::Unopened(why), disk),
+    }
+}
+
+/// Converts the archive that was opened on a disk.
+fn converted<D: Disk>(alloc: Global, counted: CountedArchive, disk: &mut D) -> Outcome
+    requires sizes { WhereTold (StoreHasSizes counted) (D.content disk.old) }
+    ensures { ConvertsOpened D.Disk counted disk.old disk.new result }
+{
+    let entries = counted.entry_count();
+    match counted.convert(alloc, disk) {
+        Ok(()) => Outcome::Converted { entries },
+        Err(why) => Outcome::Unconverted(why),
     }
 }

@@ -5,6 +5,7 @@ ghost use Rattle.archive_cli.specs.Laws.{OneJob, PlainIsTranscript, RunAfterInit
 ghost use Rattle.archive_cli.specs.Promises.{NothingIsLost, RepliesAreDefined, NumbersNameOne, PurgeLeavesNothing, CrashLeavesAnAct, ReindexChangesNoReply};
 
 use arch_model::{law_of_commands, law_of_numbers, numbers_keep_their_texts};
+use convert_planning::law_of_conversions;
 use disk_model::Disk;
 use node_serve::plain_law;
 
@@ -29,7 +30,7 @@ pub fn runs_are_those_of_their_job()
 {}
 
 /// Shows what a crash leaves after `init` and two jobs on one disk, each `deliver`, `remove`, `purge`,
-/// `edit`, `reindex` or `check`, by the clause `ends` of `run` alone.
+/// `edit`, `reindex`, `check` or `convert`, by the clause `ends` of `run` alone.
 ///
 /// The first of them may be stopped by a fault. Each live number keeps its text until it is removed,
 /// purged or edited, and no number ever names a second message.
@@ -39,26 +40,28 @@ pub fn runs_in_a_row()
     numbers_keep_their_texts();
     law_of_numbers();
     law_of_commands();
+    law_of_conversions();
 }
 
 /// Shows what a run finds after an `init` in doubt, by the clauses `ends` and `crash` of `run` alone: no
 /// archive, or the one that `init` makes, and nothing else.
 ///
 /// `init` ran on a disk of which each crash left no open slot, and ended in any way. What the next run,
-/// `deliver`, `remove`, `purge`, `edit`, `reindex` or `check`, answers and leaves is the definition's on
-/// whichever it found.
+/// `deliver`, `remove`, `purge`, `edit`, `reindex`, `check` or `convert`, answers and leaves is the
+/// definition's on whichever it found.
 pub fn run_after_init<D: Disk>(_disk: &D)
     ensures { RunAfterInit D.Disk }
 {
     numbers_keep_their_texts();
     law_of_numbers();
     law_of_commands();
+    law_of_conversions();
 }
 
 /// Shows six promises of an archive, each of what runs of the program do.
 ///
-/// * `lost`: after serving ended by itself, the next run of a command finds the archive that the last
-///   act left, with all that was acknowledged, or the one in doubt there.
+/// * `lost`: after serving ended by itself, the next run of a command or of `convert` finds the archive
+///   that the last act left, with all that was acknowledged, or the one in doubt there.
 /// * `replies`: at each act of a served session, and at each update of one that idles, the connection
 ///   took what the definition says, or a prefix of it.
 /// * `numbers`: no number names a second message in two archives of one run of serving, in their

@@ -3,13 +3,14 @@
 ghost use Rattle.std.specs.Prelude.{◌≡◌, ◌++◌, codes, decimal};
 ghost use Rattle.edge_io.specs.Phrases.{SaysTo};
 ghost use Rattle.answer_lines.specs.Lines.{whole_line};
-ghost use Rattle.archive_cli.specs.Outcomes.{outcome_line, reply_line, refusal_line, reindexed_line, checked_line, status_of, answer_status, refusal_status};
+ghost use Rattle.archive_cli.specs.Outcomes.{outcome_line, reply_line, refusal_line, reindexed_line, checked_line, unconverted_line, status_of, answer_status, conversion_status, refusal_status};
 
 use crate::status::Status;
 use answer_lines::{say_answer, say_damage, say_number};
 use arch_base::Name;
 use arch_model::{Answer, OpenRefusal};
 use edge_io::{Sink, SinkFault, say, say_line};
+use epoch_store::ConvertRefusal;
 use itoa::Buffer;
 
 /// How a command over the archive on a disk ends.
@@ -24,6 +25,10 @@ pub(crate) enum Outcome {
     /// The whole archive was read. It has these counts of entries and live messages, and this next
     /// number.
     Checked { entries: u64, live: u32, next: u32 },
+    /// The archive was converted to SHA-256 ids. It has so many entries.
+    Converted { entries: u64 },
+    /// The archive was not converted.
+    Unconverted(ConvertRefusal),
     /// A command was answered.
     Answered(Answer),
     /// The archive could not be opened.
@@ -37,7 +42,9 @@ impl Outcome {
     {
         match self {
             Outcome::Made(_) | Outcome::Reindexed { .. } | Outcome::Checked { .. } => Status::Done,
+            Outcome::Converted { .. } => Status::Done,
             Outcome::Exists => Status::Archive,
+            Outcome::Unconverted(refusal) => status_of_conversion(refusal),
             Outcome::Answered(answer) => status_of_answer(answer),
             Outcome::Unopened(refusal) => status_of_refusal(refusal),
         }
@@ -57,6 +64,8 @@ impl Outcome {
                 live,
                 next,
             } => say_checked(*entries, *live, *next, out),
+            Outcome::Converted { entries } => say_number(b"converted ", *entries, out),
+            Outcome::Unconverted(refusal) => say_unconverted(refusal, out),
             Outcome::Answered(answer) => say_reply(*answer, out),
             Outcome::Unopened(refusal) => say_refusal(refusal, out),
         }
@@ -73,6 +82,21 @@ fn status_of_answer(answer: &Answer) -> Status
         Answer::DiskFault => Status::Disk,
         Answer::NoMemory => Status::Memory,
         _ => Status::Refused,
+    }
+}
+
+/// Returns the status for an archive that was not converted.
+fn status_of_conversion(refusal: &ConvertRefusal) -> Status
+    ensures { result ≡ conversion_status refusal.now }
+{
+    match refusal {
+        ConvertRefusal::IsMirror | ConvertRefusal::Already | ConvertRefusal::Collision(_) => {
+            Status::Refused
+        }
+        ConvertRefusal::Damaged { .. } => Status::Archive,
+        ConvertRefusal::DiskFault => Status::Disk,
+        ConvertRefusal::NoMemory => Status::Memory,
+        ConvertRefusal::Open(why) => status_of_refusal(why),
     }
 }
 
@@ -137,6 +161,23 @@ pub fn say_reply<O: Sink>(answer: Answer, out: &mut O) -> Result<(), SinkFault>
     match answer {
         Answer::Damaged { file, at } => say_damage(file, at, out),
         _ => say_answer(answer, out),
+    }
+}
+
+/// Writes why an archive was not converted.
+fn say_unconverted<O: Sink>(refusal: &ConvertRefusal, out: &mut O) -> Result<(), SinkFault>
+    ensures said { SaysTo O.Sink (whole_line (unconverted_line refusal.now)) out.old out.new
+        result }
+    ensures sink { O.alike out.old out.new }
+{
+    match refusal {
+        ConvertRefusal::IsMirror => say_answer(Answer::IsMirror, out),
+        ConvertRefusal::Already => say_line(b"already converted", out),
+        ConvertRefusal::Collision(number) => say_answer(Answer::Collision(*number), out),
+        ConvertRefusal::Damaged { file, at } => say_damage(*file, *at, out),
+        ConvertRefusal::DiskFault => say_answer(Answer::DiskFault, out),
+        ConvertRefusal::NoMemory => say_answer(Answer::NoMemory, out),
+        ConvertRefusal::Open(why) => say_refusal(why, out),
     }
 }
 

@@ -5,7 +5,7 @@ ghost use Rattle.disk_model.specs.Moments.{LeavesOnly};
 ghost use Rattle.root_slots.specs.OneRoot.{BeginsNoRoot, BeginsOneRoot};
 ghost use Rattle.answer_lines.specs.Lines.{whole_line};
 ghost use Rattle.archive_cli.specs.Words.{spelled, AsksFor};
-ghost use Rattle.archive_cli.specs.declared.words.Job.TheVariants.{Serve};
+ghost use Rattle.archive_cli.specs.declared.words.Job.TheVariants.{Convert, Serve};
 ghost use Rattle.arch_base.specs.declared.config.Config.{Config};
 ghost use Rattle.arch_model.specs.declared.answer.Answer.{Answer};
 ghost use Rattle.archive_core.specs.Commands.{FilesFor, IsForCommand, way_of};
@@ -18,7 +18,7 @@ ghost use Rattle.arch_base.specs.Configs.{IsConfig};
 ghost use Rattle.archive_cli.specs.Serving.{ServeRun, ServesDiskAt};
 ghost use Rattle.edge_io.specs.Scripts.{IsArrival, IsScript};
 
-use crate::disk_commands::{check, make, reindex, take};
+use crate::disk_commands::{check, convert, make, reindex, take};
 use crate::loading::load_and_print;
 use crate::outcome::Outcome;
 use crate::playing::play_script;
@@ -64,8 +64,9 @@ pub fn run<D: Disk, H: Host, S: Source, O: Sink, C: Clock>(
     ensures crash_root { (AsksForInit (spelled words.now) → ⊥)
         → ((turns port : ℕ) → AsksFor (spelled words.now) (Serve turns port) → ⊥)
         → BeginsOneRoot D.Disk disk result.1 }
-    // None is begun unless the words ask for a command.
+    // None is begun unless the words ask for a command or a conversion.
     ensures crash_none { (AsksForMoment (spelled words.now) → ⊥)
+        → (AsksFor (spelled words.now) Convert → ⊥)
         → ((turns port : ℕ) → AsksFor (spelled words.now) (Serve turns port) → ⊥)
         → BeginsNoRoot D.Disk disk result.1 }
     // What serving did: the events that it took, the replies to each over the archive of that moment,
@@ -116,6 +117,10 @@ pub fn run<D: Disk, H: Host, S: Source, O: Sink, C: Clock>(
         }
         Some(Job::Check) => {
             let (outcome, disk) = check(alloc, disk);
+            (print_outcome(&outcome, out).code(), disk)
+        }
+        Some(Job::Convert) => {
+            let (outcome, disk) = convert(alloc, disk);
             (print_outcome(&outcome, out).code(), disk)
         }
         Some(Job::Serve { turns, port: _port }) => {

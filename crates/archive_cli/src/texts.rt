@@ -13,10 +13,10 @@ piv2: a mailing list archive, kept in the folder piv2-store of this folder
   edit N     purge N, and append the message on the input piv2 edit 2 < mail
   reindex    build rows, threads and words anew           piv2 reindex
   check      read the whole archive, and count it         piv2 check
+  convert    give all objects SHA-256 ids                 piv2 convert
   serve [turns=N] [port=N]
-             serve it on this machine until the input     piv2 serve port=7100
-             ends, or for N events: commands at the port
-             (7100), HTTP 7101, news 7102, IMAP 7103, POP3 7104, LMTP 7105
+             serve until the input ends, or for N events  piv2 serve port=7100
+             control 7100, HTTP 7101, news 7102, IMAP 7103, POP3 7104, LMTP 7105
   replay NAME [limit=N] [slice=N] [max=N] [sha256]
              run a script over an archive in memory       piv2 replay a < script
   load COUNT SEED

@@ -57,6 +57,8 @@ pub enum Job {
     Reindex,
     /// `check`: reads the whole archive.
     Check,
+    /// `convert`: converts the archive to SHA-256 ids.
+    Convert,
     /// `serve` with options: serves the archive, at most so many events, from this port on.
     Serve { turns: u64, port: u16 },
 }
@@ -164,10 +166,10 @@ pub(crate) fn default_config(name: Name) -> Config
 
 /// Returns what these words ask for, or `None` if they aren't in the grammar.
 ///
-/// The grammar is `--help`, `--version`, `deliver`, `reindex`, `check`, `serve`, `remove`, `purge` or
-/// `edit` with a number from 1 to 2,147,483,647, `load` with a count from 1 to 20,000 and a seed, or
-/// `init` or `replay` with the name of an archive and options. Each option comes at most once, in any
-/// order:
+/// The grammar is `--help`, `--version`, `deliver`, `reindex`, `check`, `convert`, `serve`, `remove`,
+/// `purge` or `edit` with a number from 1 to 2,147,483,647, `load` with a count from 1 to 20,000 and a
+/// seed, or `init` or `replay` with the name of an archive and options. Each option comes at most once,
+/// in any order:
 ///
 /// * `limit=N`: 1 to 1,099,511,627,776, by default 1,073,741,824;
 /// * `slice=N`: 1 to 1,000,000, by default 50,000;
@@ -287,6 +289,7 @@ fn read_one(word: &str) -> Option<Job>
         "deliver" => Some(Job::Deliver),
         "reindex" => Some(Job::Reindex),
         "check" => Some(Job::Check),
+        "convert" => Some(Job::Convert),
         _ => None,
     }
 }

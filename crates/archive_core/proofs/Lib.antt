@@ -27,3 +27,4 @@ mod Redone
 mod Walking
 pub mod RootBytes
 pub mod Engines
+pub mod Converted

@@ -3,6 +3,7 @@ pub mod Commands
 pub mod Openings
 pub mod Numbers
 pub mod Engines
+pub mod Converting
 pub mod HandedBack
 pub mod Placing
 pub mod Walks

@@ -1,20 +1,25 @@
-//! An archive on a disk that is opened to be counted.
+//! An archive on a disk that is opened to be counted or converted.
 //! Writes the disk; syncs.
-ghost use Rattle.std.specs.Prelude.{◌≡◌, count_by, length};
+ghost use Rattle.std.specs.Prelude.{◌≡◌, ◌↔◌, true, false, ℕ, List, Err, count_by, length};
+ghost use Rattle.arch_base.specs.declared.ids.Form.TheVariants as form_;
+ghost use Rattle.disk_model.specs.Disk.{WhereTold};
 ghost use Rattle.arch_model.specs.Archives.{Archive, live};
 ghost use Rattle.archive_core.specs.Openings.{RefusesKindly};
 ghost use Rattle.archive_core.specs.declared.placing.MessagePlace.{MessagePlace};
 ghost use Rattle.epoch_store.specs.Promises.{OpensArchive};
-ghost use Rattle.store_finding.specs.Kept.{KeepsArchive};
+ghost use Rattle.epoch_store.specs.Commands.{StoreHasSizes};
+ghost use Rattle.epoch_store.specs.Converting.{CollidesAs, ConvertsAny};
+ghost use Rattle.store_finding.specs.Kept.{IsStoreWith, KeepsArchive, StoreState};
 
 use crate::placing::{MessagePlace, places_of};
 use arch_model::OpenRefusal;
 use disk_model::Disk;
-use epoch_store::{Store, law_of_stores};
+use epoch_store::{ConvertRefusal, Store, law_of_stores};
 use std::alloc::Global;
 use std::marker::Model;
 
-/// An archive that was opened on a disk to be counted: its store, and how many messages are live.
+/// An archive that was opened on a disk to be counted or converted: its store, and how many messages
+/// are live.
 ///
 /// It has neither rows nor threads nor an index, and takes no command. Its contract view is what the
 /// store keeps.
@@ -55,6 +60,24 @@ impl CountedArchive {
         };
         let live = live_count(places.as_slice());
         Ok(CountedArchive { store, live })
+    }
+
+    /// Converts the archive to SHA-256 ids, and drops what is kept of it.
+    ///
+    /// The promises and the errors are those of `Store::convert`, which it calls.
+    pub fn convert<D: Disk>(self, alloc: Global, disk: &mut D) -> Result<(), ConvertRefusal>
+        requires sizes { WhereTold (StoreHasSizes self) (D.content disk.old) }
+        ensures mirror { (result ≡ Err ConvertRefusal.IsMirror)
+            ↔ (self.root.config.mirror ≡ true) }
+        ensures already { (result ≡ Err ConvertRefusal.Already)
+            ↔ ((self.root.config.mirror ≡ false) × (self.root.config.form ≡ form_.Sha256)) }
+        ensures collision { (a : Archive) (cache : List ℕ)
+            → IsStoreWith self cache a (D.content disk.old) → CollidesAs form_.Sha256 a result }
+        ensures changes { (made : StoreState)
+            × ConvertsAny D.Disk disk.old disk.new self made form_.Sha256 result }
+    {
+        let mut store = self.store;
+        store.convert(alloc, disk)
     }
 
     /// Returns the number of entries.

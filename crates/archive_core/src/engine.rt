@@ -14,6 +14,7 @@ ghost use Rattle.epoch_store.specs.Promises.{MakesArchive, OpensArchive};
 ghost use Rattle.store_finding.specs.Kept.{IsStoreWith};
 ghost use Rattle.epoch_store.specs.Commands.{RecoversOneOf};
 ghost use Rattle.archive_core.specs.Commands.{DoneBy, OnDone, IfUnreadFor, IfRemoval, cache_left, IsForCommand, is_delivery};
+ghost use Rattle.archive_core.specs.Converting.{EngineAnswers, EngineConverts, needs_opening_then as needs_opening_by};
 ghost use Rattle.archive_core.specs.DamageTold.{TellsDamage};
 ghost use Rattle.archive_core.specs.Engines.{HoldsArchive, FilesAre, FindsArchive, IfRefused, Leaves, OnlyReadsOn, TakesAnew, TakesOn, is_ready, needs_opening as needs_opening_after, reading-same, reading-joined, store-left, holds-rest, now-left, reading-kept, engine_of, view_fresh};
 ghost use Rattle.archive_core.specs.HandedBack.{disk_made, made_or_why, disk_opened, opened_or_why};
@@ -29,7 +30,7 @@ use crate::texts::KeptText;
 use arch_base::{Bytes, Config, MessageNumbers, NoMemory, ObjectId};
 use arch_model::{Answer, Command, EntryLine, Keep, OpenRefusal, Query, Row, Shelf, TextRefusal};
 use disk_model::Disk;
-use epoch_store::law_of_recovery;
+use epoch_store::{ConvertRefusal, law_of_recovery};
 use std::alloc::Global;
 use std::marker::Model;
 use view_set::Views;
@@ -217,6 +218,35 @@ impl<D: Disk> Engine<D> {
         );
         self.stale = is_left_stale(&answer, &followed);
         answer
+    }
+}
+
+impl<D: Disk> Engine<D> {
+    /// Converts the archive to SHA-256 ids. A stale engine is reopened first.
+    ///
+    /// The promises and the errors are those of `Store::convert`; `Open` comes only if the archive had to
+    /// be reopened and wasn't. After `Ok` the engine is stale, as its rows have the old ids: the next call
+    /// opens the archive again. It is stale after `DiskFault` too, when the form is in doubt, and after
+    /// `Damaged`.
+    pub fn convert(&mut self) -> Result<(), ConvertRefusal>
+        ensures answers { EngineAnswers D.Disk self.old self.new result }
+        ensures later { D.faults self.old.disk ≤ D.faults self.new.disk }
+    {
+        match self.fresh() {
+            Ok(()) => self.convert_ready(),
+            Err(why) => Err(ConvertRefusal::Open(why)),
+        }
+    }
+
+    /// Converts the archive of an engine that needn't be reopened.
+    fn convert_ready(&mut self) -> Result<(), ConvertRefusal>
+        requires { self.old.stale ≡ false }
+        ensures converts { EngineConverts D.Disk self.old self.new result }
+        ensures later { D.faults self.old.disk ≤ D.faults self.new.disk }
+    {
+        let result = self.archive.convert(&mut self.disk);
+        self.stale = needs_opening_then(&result);
+        result
     }
 }
 
@@ -481,6 +511,16 @@ fn needs_opening(answer: &Answer) -> bool
         Answer::Damaged { file: _, at: _ } => true,
         _other => false,
     }
+}
+
+/// Returns whether an archive has to be reopened after this answer of a conversion.
+fn needs_opening_then(answer: &Result<(), ConvertRefusal>) -> bool
+    ensures { result ≡ needs_opening_by answer.now }
+{
+    matches!(
+        answer,
+        Ok(()) | Err(ConvertRefusal::DiskFault | ConvertRefusal::Damaged { .. })
+    )
 }
 
 /// Returns whether an archive has to be reopened after this answer, whose rows were brought up or not.

@@ -6,6 +6,7 @@
 #![tactic(auto)]
 
 mod archive;
+mod converting;
 mod counted;
 mod engine;
 mod entries;

@@ -70,7 +70,11 @@ impl Reached {
 }
 
 /// Makes an archive on a disk, with epochs of this least length.
-fn made<D: Disk>(alloc: Global, disk: &mut D, limit: u64) -> Result<DiskArchive, InitRefusal>
+pub(crate) fn made<D: Disk>(
+    alloc: Global,
+    disk: &mut D,
+    limit: u64,
+) -> Result<DiskArchive, InitRefusal>
     requires low { 1 ≤ limit }
     requires high { limit ≤ 1099511627776 }
     ensures { IfOk result (λ archive. WhereTold (StoreHasSizes archive) (D.content disk.new)) }
@@ -82,7 +86,7 @@ fn made<D: Disk>(alloc: Global, disk: &mut D, limit: u64) -> Result<DiskArchive,
 }
 
 /// Carries out a command, and returns whether it is answered so, or that the disk failed.
-fn is_answered<D: Disk>(
+pub(crate) fn is_answered<D: Disk>(
     archive: &mut DiskArchive,
     disk: &mut D,
     step: &Step,

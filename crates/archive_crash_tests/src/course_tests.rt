@@ -7,7 +7,7 @@ use fixtures::{FIRST, FIRST_ID, OTHER, SECOND, SECOND_ID};
 use std::test::Fail;
 
 /// Two messages.
-static DELIVERIES: [Step; 2] = [
+pub(crate) static DELIVERIES: [Step; 2] = [
     Step {
         command: Command::Deliver(FIRST),
         reply: Reply::Done(1, FIRST_ID),

@@ -3,6 +3,8 @@
 #![tactic(auto)]
 
 #[cfg(test)]
+mod convert_tests;
+#[cfg(test)]
 mod course;
 #[cfg(test)]
 mod course_tests;

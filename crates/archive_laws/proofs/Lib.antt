@@ -1,3 +1,4 @@
 mod Filtered
+mod Followed
 mod Purged
 mod Edited

@@ -1,2 +1,3 @@
 pub mod Purges
 pub mod Edits
+pub mod Followers

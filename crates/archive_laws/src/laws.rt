@@ -2,6 +2,7 @@
 //! Pure.
 ghost use Rattle.archive_laws.specs.Purges.{DropsOneText};
 ghost use Rattle.archive_laws.specs.Edits.{ExchangesOneText};
+ghost use Rattle.archive_laws.specs.Followers.{FollowsByNumbers};
 
 use arch_model::{delivered_is_shown, edits_are_whole, law_of_numbers};
 
@@ -28,3 +29,13 @@ pub fn edit_exchanges_one_text()
     delivered_is_shown();
     edits_are_whole();
 }
+
+/// Shows which archives follow another one, by their entries alone.
+///
+/// Their next number isn't less, and each message with a number that the other archive has given is a
+/// message there with the same text. So a number never names a second message, and one that is no
+/// longer given isn't given again.
+#[tactic(auto, using(crate::proofs::Followed::follows_by_numbers))]
+pub fn kept_numbers_follow()
+    ensures { FollowsByNumbers }
+{}

@@ -7,4 +7,4 @@
 
 mod laws;
 
-pub use laws::{edit_exchanges_one_text, purge_drops_one_text};
+pub use laws::{edit_exchanges_one_text, kept_numbers_follow, purge_drops_one_text};

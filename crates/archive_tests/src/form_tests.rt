@@ -32,7 +32,7 @@ const OTHER_COMMIT: &[u8] = b"c6c396bf1ed2055ad13506b66dcb4100a8c755daa51ae0c27c
 const REMOVAL: &[u8] = b"dc16e2a70742fd93a58ead7bf540cca89aaa8485879d3c28c1365f62ac13b774";
 
 /// Returns the settings of an archive of SHA-256 objects.
-fn settings() -> Option<Config>
+pub(crate) fn settings() -> Option<Config>
     ensures { IfSome result IsConfig }
 {
     let name = Name::read(b"list")?;
@@ -59,7 +59,7 @@ fn made(alloc: Global) -> Result<Engine<MemDisk>, InitRefusal> {
 }
 
 /// Delivers two mails and removes the first one, and returns whether the answers have their blob ids.
-fn fills<K: Keep>(keep: &mut K) -> Result<bool, OpenRefusal> {
+pub(crate) fn fills<K: Keep>(keep: &mut K) -> Result<bool, OpenRefusal> {
     let first = answer(keep, &Command::Deliver(FIRST), MOMENT)?;
     let second = answer(keep, &Command::Deliver(SECOND), MOMENT)?;
     let gone = answer(keep, &Command::Remove(1), LATER)?;
@@ -99,7 +99,7 @@ fn gives<K: Keep>(alloc: Global, keep: &mut K) -> Result<bool, Fail> {
 }
 
 /// Returns whether an archive is that of the two mails and of the removal.
-fn is_filled<K: Keep>(alloc: Global, keep: &mut K) -> Result<bool, Fail> {
+pub(crate) fn is_filled<K: Keep>(alloc: Global, keep: &mut K) -> Result<bool, Fail> {
     let listed = lists(keep)?;
     let epoch = has_epoch(alloc, keep)?;
     let given = gives(alloc, keep)?;

@@ -3,6 +3,8 @@
 #![tactic(auto)]
 
 #[cfg(test)]
+mod convert_tests;
+#[cfg(test)]
 mod core_tests;
 #[cfg(test)]
 mod counting_tests;

@@ -113,7 +113,7 @@ pub(crate) fn printing_all(alloc: Global, disk: MemDisk, runs: &[Due<'_>]) -> Op
 }
 
 /// Returns whether the file of a kind, of the number 0 and a generation, has this length.
-fn has_length(disk: &mut MemDisk, kind: FileKind, generation: u64, len: u64) -> bool {
+pub(crate) fn has_length(disk: &mut MemDisk, kind: FileKind, generation: u64, len: u64) -> bool {
     let file = FileName {
         kind,
         number: 0,
@@ -131,7 +131,7 @@ fn has_files(disk: &mut MemDisk, map: u64, epoch: u64) -> bool {
 }
 
 /// A run that makes an archive.
-const MADE: Due<'_> = Due {
+pub(crate) const MADE: Due<'_> = Due {
     words: &["init", "list"],
     input: b"",
     status: 0,
@@ -139,7 +139,7 @@ const MADE: Due<'_> = Due {
 };
 
 /// A check of an archive with one message.
-const CHECKED: Due<'_> = Due {
+pub(crate) const CHECKED: Due<'_> = Due {
     words: &["check"],
     input: b"",
     status: 0,

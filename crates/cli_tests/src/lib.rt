@@ -5,6 +5,8 @@
 #[cfg(test)]
 mod absent;
 #[cfg(test)]
+mod convert_tests;
+#[cfg(test)]
 mod disk_tests;
 #[cfg(test)]
 mod load_tests;

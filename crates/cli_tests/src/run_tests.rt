@@ -186,6 +186,7 @@ fn asked(words: &[&str]) -> &'static str {
         Some(Job::Edit { number: _ }) => "edit",
         Some(Job::Reindex) => "reindex",
         Some(Job::Check) => "check",
+        Some(Job::Convert) => "convert",
         Some(Job::Serve { turns: _, port: _ }) => "serve",
     }
 }
@@ -198,7 +199,7 @@ struct Request<'a> {
 }
 
 /// Words in the grammar.
-const JOBS: [Request<'_>; 18] = [
+const JOBS: [Request<'_>; 19] = [
     Request {
         words: &["--help"],
         job: "help",
@@ -218,6 +219,10 @@ const JOBS: [Request<'_>; 18] = [
     Request {
         words: &["check"],
         job: "check",
+    },
+    Request {
+        words: &["convert"],
+        job: "convert",
     },
     Request {
         words: &["remove", "1"],
@@ -298,7 +303,7 @@ fn words_that_ask_for_a_mirror(rt: HostRuntime) {
 }
 
 /// Words without the name of an archive, or with another word after a job that has none.
-const NO_JOBS: [&[&str]; 13] = [
+const NO_JOBS: [&[&str]; 14] = [
     &[],
     &[""],
     &["init"],
@@ -310,6 +315,7 @@ const NO_JOBS: [&[&str]; 13] = [
     &["Reindex"],
     &["check", "x"],
     &["check", "list", "mirror"],
+    &["convert", "sha256"],
     &["mirror", "init", "list"],
     &["replay", "list", "mirror"],
 ];

@@ -60,7 +60,7 @@ short_unchanged bounds None None whole went = tt
 short_unchanged bounds None (Some m) whole went = absurd went
 short_unchanged bounds (Some k) m whole went = absurd (whole tt)
 
-short_reads : {D : Type 0} {g : Disk D} {old new : D} (bounds : Bounds) → WhereTold (λ (c : Content). Unit {0} → ⊥) (g.content old) → RunsBeside g bounds old new → g.faults old ≤ g.faults new
+pub short_reads : {D : Type 0} {g : Disk D} {old new : D} (bounds : Bounds) → WhereTold (λ (c : Content). Unit {0} → ⊥) (g.content old) → RunsBeside g bounds old new → g.faults old ≤ g.faults new
     → OnlyReads g old new
 short_reads {D} {g} {old} {new} bounds whole run later = record {
   same = short_unchanged bounds (g.content old) (g.content new) whole run.told;

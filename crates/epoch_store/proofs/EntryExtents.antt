@@ -127,7 +127,7 @@ behind_long next place n = by (nat_lt 0 place.length) refl where
   by true is = refl
   by false is = let none : place.length ≡ 0 = grind (arith, nat_tests, is) in let anew = anew_long next n in omega (arith, none, anew)
 
-behind_planned : (root : Root) (plans : List Plan) (e : ℕ) (q : Plan) → plan_of plans kind.Epoch e ≡ Some q → q.target ≡ Behind → length_planned root plans e ≡ named_length root e + plan_count q
+pub behind_planned : (root : Root) (plans : List Plan) (e : ℕ) (q : Plan) → plan_of plans kind.Epoch e ≡ Some q → q.target ≡ Behind → length_planned root plans e ≡ named_length root e + plan_count q
 behind_planned root plans e q is behind =
     ap (λ (o : Option Plan). (place_planned (root.sequence + 1) o (get_or root.epochs e no_place)).length) is
     ∙ (ap (λ (t : Target). (place_by (root.sequence + 1) t (get_or root.epochs e no_place) (plan_count q)).length) behind ∙ behind_long (root.sequence + 1) (get_or root.epochs e no_place) (plan_count q))
@@ -141,8 +141,8 @@ after_planned root plans e anew = by (plan_of plans kind.Epoch e) refl where
       ap (length_by (named_length root e)) some ∙ sym (anew_planned root plans e q some (anew there.index q there.here))
 
 -- The length of an epoch that gets bytes after what is planned of it.
-pub more_planned : (root : Root) (old new : List Plan) (e : ℕ) (piece : List ℕ) → AreAnew old → plan_of new kind.Epoch e ≡ Some (with_bytes (unwrap_or (plan_of old kind.Epoch e) (no_plan kind.Epoch e Behind)) piece) → length_planned root new e ≡ length_planned root old e + length piece
-more_planned root old new e piece anew is = by (plan_of old kind.Epoch e) refl where
+pub more_planned : (root : Root) (old new : List Plan) (e : ℕ) (piece : List ℕ) → plan_of new kind.Epoch e ≡ Some (with_bytes (unwrap_or (plan_of old kind.Epoch e) (no_plan kind.Epoch e Behind)) piece) → length_planned root new e ≡ length_planned root old e + length piece
+more_planned root old new e piece is = by (plan_of old kind.Epoch e) refl where
   by : (was : Option Plan) → plan_of old kind.Epoch e ≡ was → length_planned root new e ≡ length_planned root old e + length piece
   by None none =
       let plan = no_plan kind.Epoch e Behind in
@@ -153,24 +153,31 @@ more_planned root old new e piece anew is = by (plan_of old kind.Epoch e) refl w
       let was = none_planned root old e none in
       omega (arith, count, empty, long, was)
   by (Some q) some =
-      let now : plan_of new kind.Epoch e ≡ Some (with_bytes q piece) = is ∙ ap (λ (o : Option Plan). Some (with_bytes (unwrap_or o (no_plan kind.Epoch e Behind)) piece)) some in
-      let there = found old kind.Epoch e q some in
-      let count = count_with_bytes q piece in
-      let q_anew : q.target ≡ Anew = anew there.index q there.here in
-      let long = anew_planned root new e (with_bytes q piece) now q_anew in
-      let was = anew_planned root old e q some q_anew in
-      omega (arith, count, long, was)
+      by_target q.target refl where
+        by_target : (t : Target) → q.target ≡ t → length_planned root new e ≡ length_planned root old e + length piece
+        by_target Anew q_is =
+            let count = count_with_bytes q piece in
+            let now : plan_of new kind.Epoch e ≡ Some (with_bytes q piece) = is ∙ ap (λ (o : Option Plan). Some (with_bytes (unwrap_or o (no_plan kind.Epoch e Behind)) piece)) some in
+            let long = anew_planned root new e (with_bytes q piece) now q_is in
+            let was = anew_planned root old e q some q_is in
+            omega (arith, count, long, was)
+        by_target Behind q_is =
+            let count = count_with_bytes q piece in
+            let now : plan_of new kind.Epoch e ≡ Some (with_bytes q piece) = is ∙ ap (λ (o : Option Plan). Some (with_bytes (unwrap_or o (no_plan kind.Epoch e Behind)) piece)) some in
+            let long = behind_planned root new e (with_bytes q piece) now q_is in
+            let was = behind_planned root old e q some q_is in
+            omega (arith, count, long, was)
 
--- One more message is planned.
-pub planned_more : (root : Root) (old new : List Plan) (es : List StoredEntry) (e : StoredEntry) (piece : List ℕ) (start end_ : ℕ) → AreAnew old → plan_of new kind.Epoch e.epoch ≡ Some (with_bytes (unwrap_or (plan_of old kind.Epoch e.epoch) (no_plan kind.Epoch e.epoch Behind)) piece)
+-- One more entry is planned.
+pub planned_more : (root : Root) (old new : List Plan) (es : List StoredEntry) (e : StoredEntry) (piece : List ℕ) (start end_ : ℕ) → plan_of new kind.Epoch e.epoch ≡ Some (with_bytes (unwrap_or (plan_of old kind.Epoch e.epoch) (no_plan kind.Epoch e.epoch Behind)) piece)
     → ((x : ℕ) → x ≢ e.epoch → plan_of new kind.Epoch x ≡ plan_of old kind.Epoch x) → start ≡ length_planned root old e.epoch → end_ ≡ start + length piece → (LieFrom 0 0 es → AreUpToEpoch e.epoch es) → EntryLiesIn start end_ e.seen → AreNamedAfter root old es → AreNamedAfter root new (es ++ e ∷ [])
-planned_more root old new es e piece start end_ anew own others start_is end_is last lies are =
-    let here = more_planned root old new e.epoch piece anew own in
+planned_more root old new es e piece start end_ own others start_is end_is last lies are =
+    let here = more_planned root old new e.epoch piece own in
     are_in_more (length_planned root old) (length_planned root new) es e end_ longer (omega (arith, here, start_is, end_is)) (last are.lie) (subst (λ (n : ℕ). EntryLiesIn n end_ e.seen) start_is lies) are where
       longer : (x : ℕ) → length_planned root old x ≤ length_planned root new x
       longer x = elim (equal_or_not x e.epoch) [
         | inl same ↦
-            let here = more_planned root old new e.epoch piece anew own in
+            let here = more_planned root old new e.epoch piece own in
             let less : length_planned root old e.epoch ≤ length_planned root new e.epoch = omega (arith, here) in
             subst (λ (n : ℕ). length_planned root old n ≤ length_planned root new n) (sym same) less
         | inr apart ↦

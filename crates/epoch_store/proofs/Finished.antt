@@ -40,11 +40,12 @@ use Rattle.arch_model.proofs.Purging.{Climbs, messages_climb, messages_kept}
 use Rattle.arch_model.proofs.ValidArchives.{all_weaker, none_later}
 use Rattle.epoch_file.specs.Planning.{Planned, texts_in}
 use Rattle.store_finding.specs.Files.{map_file_of}
-use Rattle.store_planning.specs.Planning.{AreFrom, ClosesLast, FinishesPlans, IsCurrent, IsPlannedUpTo, Planning, PlansWithout, gone_of}
+use Rattle.store_planning.specs.Planning.{AreFrom, ClosesLast, FinishesPlans, IsCurrent, IsKeptUpTo, IsPlannedUpTo, Planning, PlansWithout, gone_of, without_current}
 use Rattle.store_finding.specs.Recovery.{bytes_in, entry_of, map_bytes, parts_of, record_for, records_from, records_of}
 use Rattle.store_finding.specs.Kept.{StoreState, IsDiskWith, stored_after}
 use Rattle.store_finding.proofs.Mapped.{map_length, records_few, records_valid}
-use Rattle.store_planning.proofs.Planned.{IsShut, each_plan, in_epoch_none, of_first, planned_none, shut, without_all}
+use Rattle.store_planning.proofs.Planned.{IsShut, each_plan, in_epoch_none, of_first, planned_none, shut}
+use Rattle.store_planning.proofs.Taking.{closed_gone}
 
 -- Numbers of the messages that are gone, of messages alone.
 abbrev nums : List Entry → List ℕ → List ℕ
@@ -167,43 +168,65 @@ part_isnt_root root kind.Cache n part = absurd part
 part_isnt_root root kind.Map n part = λ is. (let wrong : kind_index kind.Map ≡ kind_index root_name.kind = ap (λ (f : FileName). kind_index f.kind) is in absurd (omega (arith, wrong)))
 part_isnt_root root kind.Epoch n part = λ is. (let wrong : kind_index kind.Epoch ≡ kind_index root_name.kind = ap (λ (f : FileName). kind_index f.kind) is in absurd (omega (arith, wrong)))
 
-by_plan : (t u : Texts) (root : Root) (plans : List Plan) (k : FileKind) (n : ℕ) (o : Option Plan) (before : List ℕ) → plan_of plans k n ≡ o → AreFrom root plans → ((name : FileName) → name ≢ root_name → u name ≡ t name) → planned u o before ≡ planned t o before
+pub by_plan : (t u : Texts) (root : Root) (plans : List Plan) (k : FileKind) (n : ℕ) (o : Option Plan) (before : List ℕ) → plan_of plans k n ≡ o → AreFrom root plans → ((name : FileName) → name ≢ root_name → u name ≡ t name) → planned u o before ≡ planned t o before
 by_plan t u root plans k n None before is from same = refl
 by_plan t u root plans k n (Some p) before is from same =
     let there = found plans k n p is in
     let own = from there.index p there.here in
     ap (bytes_by p.target before) (written_same t u (file_by root p.kind p.number) p (same (file_by root p.kind p.number) (part_isnt_root root p.kind p.number own.0)) own.1)
 
--- The last epoch was closed.
-module _ (k : Content) (v : StoreState) (cache : List ℕ) (a : Archive) (own : IsDiskWith v cache a k) (text : List ℕ) (old : Planning) (up : IsPlannedUpTo (texts_in k) v.root a a.entries text old) where
-  all_shut : (current : Option Planned) → IsCurrent a.config.form (texts_in k) v.root a.entries text current → (mid : Planning) → ClosesLast old current mid → IsShut (texts_in k) a a.entries text mid
-  all_shut None none mid is = subst (IsShut (texts_in k) a a.entries text) (sym is) (record {
+-- The last epoch was closed: each is planned with the entries that stay.
+module _ (k : Content) (v : StoreState) (cache : List ℕ) (a : Archive) (kept : List Entry) (old : Planning) (up : IsKeptUpTo (texts_in k) v.root a a.entries kept old) where
+  by_current : (current : Option Planned) → IsCurrent a.config.form (texts_in k) v.root a.entries kept current → (mid : Planning) → ClosesLast old current mid → IsShut (texts_in k) a a.entries kept mid
+  by_current None none mid is = subst (IsShut (texts_in k) a a.entries kept) (sym is) (record {
     entries = up.entries;
-    gone = up.gone;
     before = λ x most.
         let zero_is : last_epoch a.entries ≡ 0 = ap last_epoch none in
+        let empty : in_epoch a.entries x ≡ [] = ap (λ (l : List Entry). in_epoch l x) none in
         planned_none (texts_in k) (plan_of old.plans kind.Epoch x) (bytes_in a x) (up.after x (omega (arith, zero_is)))
-        ∙ (ap (λ (l : List Entry). epoch_bytes a.config.form (in_epoch l x)) none ∙ ap (λ (l : List Entry). epoch_bytes a.config.form (in_epoch (without_text l text) x)) (sym none));
+        ∙ (ap (epoch_bytes a.config.form) empty ∙ ap (epoch_bytes a.config.form) (sym (up.among x empty)));
     after = λ x high. up.after x (omega (arith, high));
     map = up.map;
     whole = up.whole;
     own_form = up.form;
   })
-  all_shut (Some c) current mid closes = shut (texts_in k) v.root a a.entries text old up c current (λ x low. refl) (λ x low. refl) closes.0 closes.1 closes.2 mid closes.3
+  by_current (Some c) current mid closes = shut (texts_in k) v.root a a.entries kept old up c current (λ x low. refl) closes.0 closes.1 closes.2 mid closes.3
 
+  pub all_shut : (mid : Planning) → ClosesLast old old.current mid → IsShut (texts_in k) a a.entries kept mid
+  all_shut mid closes = by_current old.current up.current mid closes
+
+  pub epochs_shut : (mid : Planning) → ClosesLast old old.current mid → (n : ℕ) → planned (texts_in k) (plan_of mid.plans kind.Epoch n) (bytes_in a n) ≡ epoch_bytes a.config.form (in_epoch kept n)
+  epochs_shut mid closes n = (let shut_so = all_shut mid closes in elim (cases_lt (last_epoch a.entries) n) [
+    | inl above ↦
+        let none = in_epoch_none a.entries n (all_weaker (λ (f : Entry). f.epoch ≤ last_epoch a.entries) (λ (f : Entry). f.epoch ≢ n) a.entries (λ f low same. absurd (omega (arith, low, same, above))) (none_later a.entries)) in
+        planned_none (texts_in k) (plan_of mid.plans kind.Epoch n) (bytes_in a n) (shut_so.after n above)
+        ∙ (ap (epoch_bytes a.config.form) none ∙ ap (epoch_bytes a.config.form) (sym (up.among n none)))
+    | inr most ↦ shut_so.before n (omega (arith, most))
+  ])
+
+-- Closing leaves the numbers of messages that are gone.
+last_gone : (old : Planning) (current : Option Planned) (mid : Planning) → ClosesLast old current mid → mid.gone ≡ old.gone
+last_gone old None mid is = ap (λ (p : Planning). p.gone) is
+last_gone old (Some c) mid closes = closed_gone (without_current old) closes.0 mid closes.3
+
+-- A text was left out.
+module _ (k : Content) (v : StoreState) (cache : List ℕ) (a : Archive) (own : IsDiskWith v cache a k) (text : List ℕ) (old : Planning) (up : IsPlannedUpTo (texts_in k) v.root a a.entries text old) where
   -- So each part is that of the archive without the text.
   module _ (map : FileName) (map_is : map ≡ map_file_of v.root) (count : ℕ) (count_is : count ≡ v.root.next - 1) (new : Planning) (finishes : FinishesPlans old map count new) (from : AreFrom v.root new.plans) where
     abbrev mid : Planning
     mid = finishes.0
 
-    shut_so : IsShut (texts_in k) a a.entries text mid
-    shut_so = all_shut old.current up.current mid finishes.1
+    shut_so : IsShut (texts_in k) a a.entries (without_text a.entries text) mid
+    shut_so = all_shut k v cache a (without_text a.entries text) old up.0 mid finishes.1
+
+    gone_so : mid.gone ≡ gone_of a.entries text
+    gone_so = last_gone old old.current mid finishes.1 ∙ up.1
 
     abbrev plan : Plan
     plan = finishes.2.0
 
     of_map : PlansMap a.config.form map count mid.gone plan
-    of_map = subst (λ (g : Form). PlansMap g map count mid.gone plan) up.form finishes.2.1
+    of_map = subst (λ (g : Form). PlansMap g map count mid.gone plan) up.0.form finishes.2.1
 
     new_is : new ≡ record { plans = mid.plans ++ plan ∷ []; entries = mid.entries; gone = mid.gone; current = mid.current; form = mid.form }
     new_is = finishes.2.2.0
@@ -242,7 +265,7 @@ module _ (k : Content) (v : StoreState) (cache : List ℕ) (a : Archive) (own : 
         let here : plan_of (mid.plans ++ plan ∷ []) kind.Map n ≡ Some plan = of_more mid.plans (plan ∷ []) kind.Map n (shut_so.map n) ∙ of_first plan [] kind.Map n (is_of_own plan kind.Map n of_map.kind (of_map.number ∙ sym n_is)) in
         ap (λ (o : Option Plan). planned (texts_in k) o (map_bytes a)) here
         ∙ (ap (λ (target : Target). bytes_by target (map_bytes a) (written_by (texts_in k) plan)) of_map.target
-        ∙ (map_planned_so.1 ∙ (ap (λ (gone : List ℕ). map_without a.config.form gone (records_of a)) shut_so.gone ∙ map_same a text own.keeps.valid)))
+        ∙ (map_planned_so.1 ∙ (ap (λ (gone : List ℕ). map_without a.config.form gone (records_of a)) gone_so ∙ map_same a text own.keeps.valid)))
     map_part n false other =
         let apart : n ≢ 0 = (λ is. (let wrong = same_test n 0 is in let no : true ≡ false = sym wrong ∙ other in cc)) in
         planned_none (texts_in k) (plan_of (mid.plans ++ plan ∷ []) kind.Map n) []
@@ -251,13 +274,7 @@ module _ (k : Content) (v : StoreState) (cache : List ℕ) (a : Archive) (own : 
     epoch_part : (n : ℕ) → planned (texts_in k) (plan_of (mid.plans ++ plan ∷ []) kind.Epoch n) (bytes_in a n) ≡ bytes_in (without_entries a text) n
     epoch_part n =
         ap (λ (o : Option Plan). planned (texts_in k) o (bytes_in a n)) (of_others mid.plans plan kind.Epoch n (other_part plan kind.Epoch n (λ k_is n_is. (let wrong : kind_index kind.Map ≡ kind_index kind.Epoch = ap kind_index (sym of_map.kind ∙ k_is) in absurd (omega (arith, wrong))))))
-        ∙ elim (cases_lt (last_epoch a.entries) n) [
-          | inl above ↦
-              let none = all_weaker (λ (f : Entry). f.epoch ≤ last_epoch a.entries) (λ (f : Entry). f.epoch ≢ n) a.entries (λ f low same. absurd (omega (arith, low, same, above))) (none_later a.entries) in
-              planned_none (texts_in k) (plan_of mid.plans kind.Epoch n) (bytes_in a n) (shut_so.after n above)
-              ∙ (ap (epoch_bytes a.config.form) (in_epoch_none a.entries n none) ∙ ap (epoch_bytes a.config.form) (sym (in_epoch_none (without_text a.entries text) n (without_all (λ (f : Entry). f.epoch ≢ n) a.entries text none))))
-          | inr most ↦ shut_so.before n (omega (arith, most))
-        ]
+        ∙ epochs_shut k v cache a (without_text a.entries text) old up.0 mid finishes.1 n
 
     cache_part : (n : ℕ) → [] ≡ parts_of (without_entries a text) [] kind.Cache n
     cache_part n = by (n == 0) where

@@ -1,6 +1,11 @@
+mod AddedEntries
+mod AdoptedArchive
+mod AdoptedEpochs
 mod CarriedOut
 mod Carrying
 pub mod Changing
+mod ConvertCarried
+mod ConvertPlanned
 mod Delivering
 mod Edited
 mod Ends
@@ -14,6 +19,7 @@ mod KeptFiles
 mod LosingAll
 mod Making
 mod MessagedArchive
+mod MorePlanned
 mod NextArchive
 mod Placed
 mod Purged

@@ -1,6 +1,6 @@
 -- One more message after what is planned, on the archive that is planned.
 use Rattle.std.specs.Prelude.{◌≡◌, ◌≢◌, ◌+◌, ◌^◌, ◌<◌, ◌≤◌, ◌==◌, ℕ, Bool, true, false, if◌then◌else◌, List, [], ◌∷◌, ◌++◌, length, get_or, Option, Some, None, unwrap_or, refl}
-use Rattle.std.proofs.Common.{◌∙◌, sym, ap, subst, inl, inr, arith, append_assoc, length-append}
+use Rattle.std.proofs.Common.{◌∙◌, sym, ap, subst, inl, inr, arith, length-append}
 use Rattle.std.proofs.lemmas.Bool.Decides.{nat_tests}
 use Rattle.disk_model.specs.declared.name.FileKind.{FileKind}
 use Rattle.disk_model.specs.declared.name.FileKind.TheVariants as kind
@@ -19,12 +19,12 @@ use Rattle.mail_reader.specs.Ids.{own_id}
 use Rattle.root_slots.specs.declared.root.Root.{Root}
 use Rattle.root_slots.specs.Valid.{no_place}
 use Rattle.root_change.specs.declared.plan.Target.{Target}
-use Rattle.root_change.specs.declared.plan.Target.TheVariants.{Anew, Behind}
+use Rattle.root_change.specs.declared.plan.Target.TheVariants.{Behind}
 use Rattle.root_change.specs.Parts.{texts_of}
-use Rattle.root_change.specs.Rewriting.{Plan, IsPlan, IsPlanWhole, bytes_by, no_plan, plan_of, planned, rewritten, with_bytes, written_by}
+use Rattle.root_change.specs.Rewriting.{Plan, IsPlanWhole, bytes_by, no_plan, plan_of, planned, rewritten, with_bytes, written_by}
 use Rattle.root_change.specs.Texts.{Texts}
 use Rattle.root_change.proofs.PlanParts.{found}
-use Rattle.root_change.proofs.Plans.{written_long, written_with_bytes}
+use Rattle.root_change.proofs.Plans.{written_long}
 use Rattle.root_change.proofs.Pushes.{whole_with_bytes}
 use Rattle.root_change.proofs.Roots.{equal_or_not}
 use Rattle.arch_model.specs.Archives.{Entry, Archive, in_epoch, message, with_entry}
@@ -44,19 +44,9 @@ use Rattle.epoch_store.specs.Commands.{EntriesEndAt}
 use Rattle.store_finding.specs.Kept.{StoreState, stored_at}
 use Rattle.epoch_store.proofs.Entering.{some_bytes}
 use Rattle.epoch_store.proofs.EntryExtents.{after_planned, planned_more}
+use Rattle.epoch_store.proofs.MorePlanned.{none_whole, option_more, plan_more}
 use Rattle.store_finding.proofs.Growing.{bytes_here, bytes_other, map_grows, stored_more}
 use Rattle.store_planning.proofs.Messaged.{each_record, each_with, epoch_isnt_map, here_record, here_with, other_record, other_with, ready_more}
-
--- More bytes than a plan writes follow those of the part.
-by_more : (t : Target) (before written more : List ℕ) → bytes_by t before (written ++ more) ≡ bytes_by t before written ++ more
-by_more Anew before written more = refl
-by_more Behind before written more = sym (append_assoc before written more)
-
-none_whole : (t : Texts) (e : ℕ) → IsPlanWhole t (no_plan kind.Epoch e Behind)
-none_whole t e = λ i s here. absurd (let wrong : None ≡ Some s = here in cc)
-
-none_valid : (e : ℕ) → IsPlan (no_plan kind.Epoch e Behind)
-none_valid e = record { sources = λ i s here. absurd (let wrong : None ≡ Some s = here in cc); short = omega arith }
 
 module _ (root : Root) (cache : List ℕ) (a b : Archive) (old : Planning) (next : ℕ) (made : PlansArchive root cache a b old next) (names : NamesArchive root a) (valid : AreValid old.plans) where
   abbrev texts : Texts
@@ -75,16 +65,6 @@ module _ (root : Root) (cache : List ℕ) (a b : Archive) (old : Planning) (next
         sym (written_long texts p (made.whole there.index p there.here))
         ∙ ap length (ap (λ (t : Target). bytes_by t (bytes_in a e) (written_by texts p)) (sym (anew there.index p there.here)) ∙ (sym (part_of kind.Epoch e (Some p) is) ∙ made.parts kind.Epoch e))
 
-  -- The part of a plan with more bytes.
-  some_more : (k : FileKind) (n : ℕ) (p : Plan) (more : List ℕ) → plan_of old.plans k n ≡ Some p → planned texts (Some (with_bytes p more)) (parts_of a cache k n) ≡ planned texts (Some p) (parts_of a cache k n) ++ more
-  some_more k n p more is =
-      let there = found old.plans k n p is in
-      ap (bytes_by p.target (parts_of a cache k n)) (written_with_bytes texts p more (valid there.index p there.here)) ∙ by_more p.target (parts_of a cache k n) (written_by texts p) more
-
-  option_more : (n : ℕ) (o : Option Plan) (more : List ℕ) → plan_of old.plans kind.Epoch n ≡ o → planned texts (Some (with_bytes (unwrap_or o (no_plan kind.Epoch n Behind)) more)) (bytes_in a n) ≡ planned texts o (bytes_in a n) ++ more
-  option_more n None more is = ap (λ (w : List ℕ). bytes_in a n ++ w) (written_with_bytes texts (no_plan kind.Epoch n Behind) more (none_valid n))
-  option_more n (Some p) more is = some_more kind.Epoch n p more is
-
   module _ (e : ℕ) (text : List ℕ) (moment : ℕ) (piece line : List ℕ) (piece_is : piece ≡ front_at b.config.form (length (bytes_in b e)) ++ bytes_after b.config.form (last_commit b.config.form None (in_epoch b.entries e)) (record { kind = Message; text = text; moment = moment }))
       (line_is : line ≡ record_bytes (record { number = next; epoch = e; blob = blob_id_of b.config.form text })) (mp : Plan) (map_is : plan_of old.plans kind.Map 0 ≡ Some mp) where
     abbrev new : Entry
@@ -99,7 +79,7 @@ module _ (root : Root) (cache : List ℕ) (a b : Archive) (old : Planning) (next
     here : planned texts (plan_of all kind.Epoch e) (bytes_in a e) ≡ bytes_in (with_entry b e text moment) e
     here =
         ap (λ (o : Option Plan). planned texts o (bytes_in a e)) (other_record mid line kind.Epoch e (λ k_is n_is. epoch_isnt_map (sym k_is)) ∙ here_with old.plans e piece)
-        ∙ (option_more e (plan_of old.plans kind.Epoch e) piece refl
+        ∙ (option_more texts old.plans valid e (plan_of old.plans kind.Epoch e) (bytes_in a e) piece refl
         ∙ (ap (λ (l : List ℕ). l ++ piece) (made.parts kind.Epoch e) ∙ (ap (λ (l : List ℕ). bytes_in b e ++ l) piece_is ∙ sym (bytes_here b new))))
 
     elsewhere : (n : ℕ) → n ≢ e → planned texts (plan_of all kind.Epoch n) (bytes_in a n) ≡ bytes_in (with_entry b e text moment) n
@@ -113,7 +93,7 @@ module _ (root : Root) (cache : List ℕ) (a b : Archive) (old : Planning) (next
     map_here : planned texts (plan_of all kind.Map 0) (map_bytes a) ≡ map_bytes (with_entry b e text moment)
     map_here =
         ap (λ (o : Option Plan). planned texts o (map_bytes a)) (here_record mid line mp map_mid)
-        ∙ (some_more kind.Map 0 mp line map_is
+        ∙ (plan_more texts old.plans valid kind.Map 0 mp (map_bytes a) line map_is
         ∙ (ap (λ (l : List ℕ). l ++ line) (sym (part_of kind.Map 0 (Some mp) map_is) ∙ made.parts kind.Map 0)
         ∙ (ap (λ (l : List ℕ). map_bytes b ++ l) (line_is ∙ ap (λ (n : ℕ). record_bytes (record { number = n; epoch = e; blob = blob_id_of b.config.form text })) (sym made.next_is))
         ∙ sym (map_grows b e text moment made.valid.next_least made.valid.below))))
@@ -242,7 +222,7 @@ message_planned v old one two p text moment piece blob stored place small long s
       named = λ anew named.
           let long_is : p.length ≡ length_planned v.root old.plans stored.epoch = long ∙ (after_planned v.root old.plans p.epoch anew ∙ ap (length_planned v.root old.plans) (sym epoch_is)) in
           let last_is : LieFrom 0 0 old.entries → AreUpToEpoch stored.epoch old.entries = λ lie. subst (λ (n : ℕ). AreUpToEpoch n old.entries) (sym epoch_is) (last lie) in
-          subst (λ (es : List StoredEntry). AreNamedAfter v.root plans es) (sym all) (planned_more v.root old.plans plans old.entries stored piece p.length end_ anew own_is others_are long_is end_is last_is lies named);
+          subst (λ (es : List StoredEntry). AreNamedAfter v.root plans es) (sym all) (planned_more v.root old.plans plans old.entries stored piece p.length end_ own_is others_are long_is end_is last_is lies named);
       archive = λ cache a b made names anew is.
           subst (λ (l : List Plan). PlansArchive v.root cache a (with_entry b (new_epoch b) text moment) (record { plans = l; entries = entries; gone = gone; current = current; form = form }) (v.root.next + 1)) (sym plans_are)
           (message_archive v old p text moment piece blob stored valid place small long short piece_is blob_is stored_is appends.1.0 map_is cache a b made names anew is gone current form entries all);

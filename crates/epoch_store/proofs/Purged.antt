@@ -35,18 +35,17 @@ use Rattle.epoch_file.specs.declared.refusal.StoreRefusal.TheVariants.{DiskFault
 use Rattle.store_finding.specs.declared.entries.StoredEntry.{StoredEntry}
 use Rattle.store_finding.specs.Extents.{AreNamedAfter}
 use Rattle.store_finding.specs.Files.{epoch_file_of, map_file_of}
-use Rattle.store_planning.specs.Planning.{AreAnew, AreFrom, ArePlansIn, ClosesAs, ClosesLast, FinishesPlans, GivesNext, IsPlannedUpTo, IsReadyPlan, IsTakenToOffset, KeepsBut, PicksText, Planning, PlansFirst, PlansLost, PlansOwn, PlansPurge, PlansUndamaged, PlansNext, no_planning, without_current}
+use Rattle.store_planning.specs.Planning.{AreAnew, AreFrom, ArePlansIn, ClosesAs, ClosesLast, FinishesPlans, GivesNext, IsKeptUpTo, IsPlannedUpTo, IsReadyPlan, IsTakenToOffset, KeepsBut, PicksText, Planning, PlansFirst, PlansLost, PlansOwn, PlansPurge, PlansUndamaged, PlansNext, no_planning, without_current}
 use Rattle.store_planning.specs.Dropping.{KeptOf, SeesNoDamage, without_blob}
 use Rattle.store_finding.specs.Kept.{StoreState, IsDiskWith, stored_after, stored_at}
 use Rattle.epoch_store.proofs.Finished.{entries_are, finished_without}
 use Rattle.epoch_store.proofs.Texts.{kept_found}
 
 -- Before the first entry.
-pub first_none : (v : StoreState) (blob : ObjectId) (content : Option Content) → WhereTold (PlansFirst v blob 0 (no_planning v.root.config.form)) content
-first_none v blob None = tt
-first_none v blob (Some k) = λ cache a text own picks. record {
+pub kept_none : (k : Content) (v : StoreState) (cache : List ℕ) (a : Archive) → IsDiskWith v cache a k → IsKeptUpTo (texts_in k) v.root a [] [] (no_planning v.root.config.form)
+kept_none k v cache a own = record {
   entries = refl;
-  gone = refl;
+  among = λ x none. none;
   before = λ x less. absurd (omega (arith, less));
   after = λ x high. refl;
   map = λ x. refl;
@@ -54,6 +53,10 @@ first_none v blob (Some k) = λ cache a text own picks. record {
   current = refl;
   form = ap (λ (c : Config). c.form) own.keeps.names.config;
 }
+
+pub first_none : (v : StoreState) (blob : ObjectId) (content : Option Content) → WhereTold (PlansFirst v blob 0 (no_planning v.root.config.form)) content
+first_none v blob None = tt
+first_none v blob (Some k) = λ cache a text own picks. (kept_none k v cache a own, refl)
 
 pub plans_none : (root : Root) → ArePlansIn root (no_planning root.config.form)
 plans_none root = record { each = λ i p here. absurd (let wrong : None ≡ Some p = here in cc); current = tt; form = refl }
@@ -75,7 +78,7 @@ pub record IsNth (form : Form) (before es : List Entry) (n : ℕ) (s : StoredEnt
   pub more : take (suc n) es ≡ take n es ++ entry ∷ []
   pub kept : s ≡ stored_at form (before ++ take n es) entry
 
-nth : (form : Form) (before es : List Entry) (n : ℕ) (s : StoredEntry) → slice_get (stored_after form before es) n ≡ Some s → IsNth form before es n s
+pub nth : (form : Form) (before es : List Entry) (n : ℕ) (s : StoredEntry) → slice_get (stored_after form before es) n ≡ Some s → IsNth form before es n s
 nth form before [] n s here = absurd (let less = slice_get_within {A = StoredEntry} [] n s here in omega (arith, less))
 nth form before (e ∷ es) zero s here = record {
   entry = e;
@@ -109,7 +112,7 @@ first_more v blob n p new (Some k) (Some m) stored file same here file_is up tak
     subst (λ (es : List Entry). IsPlannedUpTo (texts_in k) v.root a es text new) (sym at.more ∙ ap (λ (j : ℕ). take j a.entries) count) one
 
 -- All entries of a store are those of its archive.
-length_stored : (form : Form) (before es : List Entry) → length (stored_after form before es) ≡ length es
+pub length_stored : (form : Form) (before es : List Entry) → length (stored_after form before es) ≡ length es
 length_stored form before [] = refl
 length_stored form before (e ∷ es) = ap suc (length_stored form (before ++ e ∷ []) es)
 

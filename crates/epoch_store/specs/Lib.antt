@@ -5,5 +5,8 @@ pub mod Promises
 pub mod Reads
 pub mod Settling
 pub mod Commands
+pub mod Adopting
+pub mod Converting
 pub mod Entering
 pub mod Leaving
+pub mod AdoptedLines

@@ -4,6 +4,9 @@
 //! No crash leaves a change half done.
 #![tactic(auto)]
 
+mod adopting;
+mod convert_refusal;
+mod converting;
 mod epochs;
 mod first;
 mod laws;
@@ -15,6 +18,8 @@ mod store;
 mod store_opening;
 mod writing;
 
+pub use adopting::Adoption;
+pub use convert_refusal::ConvertRefusal;
 pub use laws::{law_of_opened_files, law_of_recovery, law_of_stores};
 pub use refusal::InitRefusal;
 pub use store::Store;

@@ -254,7 +254,7 @@ impl Store {
     }
 
     /// Carries out what is planned, and keeps what it leaves. Allocates nothing.
-    fn carry_out<D: Disk>(
+    pub(crate) fn carry_out<D: Disk>(
         &mut self,
         disk: &mut D,
         planned: Planner,

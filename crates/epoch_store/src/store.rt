@@ -167,6 +167,7 @@ impl Store {
         ensures epoch { result.epoch ≡ place.now.epoch }
         ensures number { result.number ≡ number }
         ensures kind { result.seen.kind ≡ entry.now.kind }
+        ensures moment { result.seen.moment ≡ entry.now.moment }
         ensures id { result.seen.id ≡ id }
         ensures blob { result.seen.blob ≡ blob_id_of self.now.root.config.form entry.now.text.now }
         ensures content { result.seen.content ≡ content_id_of entry.now.text.now }

@@ -14,6 +14,6 @@ mod writing;
 
 pub use laws::law_of_records;
 pub use line::{Record, Records};
-pub use rewriting::{plan_without, push_record, push_records, rewrite};
+pub use rewriting::{plan_without, push_record, push_records, rewrite, without_message};
 pub use whole::walk;
 pub use writing::append;

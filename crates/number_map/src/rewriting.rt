@@ -18,9 +18,9 @@ use disk_model::{Disk, FileKind, FileName, WalkRefusal, records_size};
 use root_change::{PartPlan, Target, put_sources};
 use std::alloc::Global;
 
-/// Returns the record of a number without a message.
-fn without_message(number: u32, form: Form) -> Record
-    ensures { result ≡ none_record form number }
+/// Returns the record of a number without a message, in a form.
+pub fn without_message(number: u32, form: Form) -> Record
+    ensures none { result ≡ none_record form number }
 {
     Record {
         number,

@@ -2,3 +2,4 @@ pub mod Counted
 pub mod Progress
 pub mod Sockets
 pub mod Homes
+pub mod PeerWires

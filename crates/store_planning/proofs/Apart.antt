@@ -49,3 +49,12 @@ taken_by root epoch from p (Some c) taken ends = ap (λ (f : FileName). plan_of 
 
 pub taken_apart : (root : Root) (epoch from : ℕ) (p : Planning) → IsTakenUpTo root epoch from p → PlansApart p.plans p.current
 taken_apart root epoch from p taken = taken_by root epoch from p p.current taken taken.ends
+
+-- No epoch is current once the last one is closed.
+closed_none : (old : Planning) (finished : Option Plan) (mid : Planning) → ClosesAs old finished mid → mid.current ≡ old.current
+closed_none old None mid is = ap (λ (p : Planning). p.current) is
+closed_none old (Some plan) mid is = ap (λ (p : Planning). p.current) is.0
+
+pub last_none : (old : Planning) (current : Option Planned) (mid : Planning) → old.current ≡ current → ClosesLast old current mid → mid.current ≡ None
+last_none old None mid was is = ap (λ (p : Planning). p.current) is ∙ was
+last_none old (Some c) mid was closes = closed_none (without_current old) closes.0 mid closes.3

@@ -41,7 +41,7 @@ last_is_greatest number epoch (f ∷ es) e rise =
     (ap (greater f.epoch) rest.0 ∙ greater_second f.epoch e.epoch rest.1, omega (arith, low, rest.1))
 
 -- The last item of a list.
-last_item : {X : Type 0} (xs : List X) (x : X) → slice_get (xs ++ x ∷ []) (length (xs ++ x ∷ []) - 1) ≡ Some x
+pub last_item : {X : Type 0} (xs : List X) (x : X) → slice_get (xs ++ x ∷ []) (length (xs ++ x ∷ []) - 1) ≡ Some x
 last_item {X} xs x =
     let place : length (xs ++ x ∷ []) - 1 ≡ length xs = omega (arith, length-append xs (x ∷ [])) in
     ap (slice_get (xs ++ x ∷ [])) place ∙ after xs where

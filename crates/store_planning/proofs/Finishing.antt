@@ -26,7 +26,7 @@ pub record IsAnewIn (root : Root) (p : Plan) : Type 0 where
   pub anew : p.target ≡ Anew
   pub valid : IsPlan p
 
-epoch_anew : (root : Root) (p : Plan) → IsPlanIn root p → IsAnewIn root p
+pub epoch_anew : (root : Root) (p : Plan) → IsPlanIn root p → IsAnewIn root p
 epoch_anew root p in_ =
     let low = in_.small in
     let below : p.number < 64 = omega (arith, low) in
@@ -62,11 +62,11 @@ map_planned_by old inside mid map count plan same closes of =
     subst (λ (g : Form). PlansMap g map count mid.gone plan) (last_form old old.current mid closes)
     (subst (λ (p : Planning). PlansMap p.form map count p.gone plan) same of)
 
-isnt_behind : (t : Target) → t ≡ Anew → t ≡ Behind → ⊥
+pub isnt_behind : (t : Target) → t ≡ Anew → t ≡ Behind → ⊥
 isnt_behind t is behind = (let wrong : Anew ≡ Behind = sym is ∙ behind in cc)
 
 -- The current epoch was closed, or there was none.
-last_in : (root : Root) (old : Planning) (current : Option Planned) (mid : Planning) → ((i : ℕ) (p : Plan) → slice_get old.plans i ≡ Some p → IsPlanIn root p) → IsFileIn root current → ClosesLast old current mid → (i : ℕ) (p : Plan) → slice_get mid.plans i ≡ Some p → IsPlanIn root p
+pub last_in : (root : Root) (old : Planning) (current : Option Planned) (mid : Planning) → ((i : ℕ) (p : Plan) → slice_get old.plans i ≡ Some p → IsPlanIn root p) → IsFileIn root current → ClosesLast old current mid → (i : ℕ) (p : Plan) → slice_get mid.plans i ≡ Some p → IsPlanIn root p
 last_in root old None mid each in_ is = λ i p here. each i p (ap (λ (q : Planning). slice_get q.plans i) (sym is) ∙ here)
 last_in root old (Some c) mid each in_ closes = closed_in root (without_current old) c closes.0 mid each in_ closes.2 closes.3
 

@@ -4,8 +4,11 @@ mod Finishing
 mod Indexed
 pub mod Losing
 pub mod Messaged
+pub mod ReadyEpochs
+mod Mapped
+pub mod Parents
 pub mod Planned
 mod Ranges
 pub mod Taken
-mod Taking
+pub mod Taking
 pub mod Apart

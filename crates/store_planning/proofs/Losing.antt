@@ -1,8 +1,6 @@
 -- Which epochs a planner writes anew: those that lose an entry.
 use Rattle.std.specs.Prelude.{◌≡◌, ◌==◌, ℕ, Bool, true, false, ◌&&◌, ◌||◌, if◌then◌else◌, List, [], ◌∷◌, ◌++◌, Option, Some, None, is_some, refl}
 use Rattle.std.proofs.Common.{◌∙◌, sym, ap, inl, inr}
-use Rattle.arch_base.specs.declared.ids.ObjectId.{ObjectId}
-use Rattle.arch_base.specs.Ids.{id_eq}
 use Rattle.disk_model.specs.Disk.{Content}
 use Rattle.disk_model.specs.declared.name.FileKind.{FileKind}
 use Rattle.disk_model.specs.declared.name.FileKind.TheVariants as kind
@@ -67,17 +65,17 @@ opened_some old file (Some c) mid plan e (inr next) = (
 )
 
 -- An entry was kept, or left out.
-pub kept_changes : (old : Planning) (file : FileName) (stored : StoredEntry) (blob : ObjectId) (content : Option Content) (mid new : Planning) (plan : Planned) → OpensPlan old file mid plan → id_eq blob stored.seen.blob ≡ false → PlansEntry mid plan stored content new → ChangesNext old file.number (id_eq blob stored.seen.blob) new
-kept_changes old file stored blob content mid new plan opens test keeps = λ e.
+pub kept_changes : (old : Planning) (file : FileName) (stored : StoredEntry) (content : Option Content) (mid new : Planning) (plan : Planned) → OpensPlan old file mid plan → PlansEntry mid plan stored content new → ChangesNext old file.number false new
+kept_changes old file stored content mid new plan opens keeps = λ e.
     let so = opened_some old file old.current mid plan e opens in
     let some = is_some (plan_of mid.plans kind.Epoch e) in
     ap (λ (p : Planning). is_anew p e) keeps.new_is
     ∙ (ap (λ (t : Bool). some || (t && (keeps.after.file.number == e))) keeps.going
     ∙ (ap (λ (f : FileName). some || (is_some plan.changed && (f.number == e))) keeps.file
-    ∙ (so.1 ∙ (sym (or_no (is_anew old e)) ∙ ap (λ (t : Bool). is_anew old e || (t && (file.number == e))) (sym test)))))
+    ∙ (so.1 ∙ sym (or_no (is_anew old e)))))
 
-pub left_changes : (old : Planning) (file : FileName) (stored : StoredEntry) (blob : ObjectId) (mid new : Planning) (plan : Planned) → OpensPlan old file mid plan → id_eq blob stored.seen.blob ≡ true → LeavesOut mid plan stored new → ChangesNext old file.number (id_eq blob stored.seen.blob) new
-left_changes old file stored blob mid new plan opens test left = λ e.
+pub left_changes : (old : Planning) (file : FileName) (stored : StoredEntry) (mid new : Planning) (plan : Planned) → OpensPlan old file mid plan → LeavesOut mid plan stored new → ChangesNext old file.number true new
+left_changes old file stored mid new plan opens left = λ e.
     let so = opened_some old file old.current mid plan e opens in
     let some = is_some (plan_of mid.plans kind.Epoch e) in
     let was : (some || (is_some plan.changed && (file.number == e))) ≡ is_anew old e = ap (λ (f : FileName). some || (is_some plan.changed && (f.number == e))) (sym so.0) ∙ so.1 in
@@ -85,4 +83,8 @@ left_changes old file stored blob mid new plan opens test left = λ e.
     ∙ (ap (λ (t : Bool). some || (t && (left.0.file.number == e))) left.4
     ∙ (ap (λ (f : FileName). some || (f.number == e)) (left.2 ∙ so.0)
     ∙ (or_more some (is_some plan.changed) (file.number == e)
-    ∙ (ap (λ (t : Bool). t || (file.number == e)) was ∙ ap (λ (t : Bool). is_anew old e || (t && (file.number == e))) (sym test)))))
+    ∙ ap (λ (t : Bool). t || (file.number == e)) was)))
+
+-- The same by a test of the entry.
+pub changes_by : (old : Planning) (number : ℕ) (t leaves : Bool) (new : Planning) → t ≡ leaves → ChangesNext old number leaves new → ChangesNext old number t new
+changes_by old number t leaves new is changes = λ e. changes e ∙ ap (λ (b : Bool). is_anew old e || (b && (number == e))) (sym is)

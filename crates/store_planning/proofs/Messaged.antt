@@ -14,7 +14,7 @@ use Rattle.root_change.specs.declared.plan.Target.TheVariants.{Behind}
 use Rattle.root_change.specs.declared.sources.Source.{Source}
 use Rattle.root_change.specs.declared.sources.Source.TheVariants.{Bytes}
 use Rattle.root_change.specs.Names.{place_of}
-use Rattle.root_change.specs.Rewriting.{Plan, AreApart, IsPartToPlan, IsPlan, IsPlanFrom, SourceIsWithin, MayCarry, file_by, map_by, map_planned, no_plan, plan_count, plan_of, with_bytes}
+use Rattle.root_change.specs.Rewriting.{Plan, AreApart, IsPartToPlan, IsPlan, IsPlanFrom, SourceIsWithin, MayCarry, MayCarryAll, file_by, map_by, map_planned, no_plan, plan_count, plan_of, with_bytes}
 use Rattle.root_change.proofs.Drops.{true_or_false}
 use Rattle.root_change.proofs.PlanParts.{is_of, is_of_is, is_of_own, other_part}
 use Rattle.root_change.proofs.Pushes.{count_with_bytes, each_more, from_with_bytes}
@@ -159,6 +159,16 @@ rest_new root bytes e below room = rest_more root bytes (no_plan kind.Epoch e Be
 pub epoch_isnt_map : kind.Map ≡ kind.Epoch → ⊥
 epoch_isnt_map is = let wrong : kind_index kind.Map ≡ kind_index kind.Epoch = ap kind_index is in absurd (omega (arith, wrong))
 
+-- With bytes added to an epoch they still may.
+rests_with : (root : Root) (plans : List Plan) (e : ℕ) (piece : List ℕ) → e ≤ 63 → (plan_of plans kind.Epoch e ≡ None → (get_or root.epochs e no_place).length < 2 ^ 62) → MayCarryAll root plans → (i : ℕ) (p : Plan) → slice_get (plans_with plans e piece) i ≡ Some p → MayRest root p
+rests_with root plans e piece low room may = each_with (MayRest root) plans e piece (λ j q there. rest_of root q (may.each j q there)) (rest_more root piece) (λ none. rest_new root piece e (omega (arith, low)) (room none))
+
+pub carry_with : (root : Root) (plans : List Plan) (e : ℕ) (piece : List ℕ) → e ≤ 63 → (plan_of plans kind.Epoch e ≡ None → (get_or root.epochs e no_place).length < 2 ^ 62) → AreValid (plans_with plans e piece) → MayCarryAll root plans → MayCarryAll root (plans_with plans e piece)
+carry_with root plans e piece low room valid may = record {
+  each = λ i p here. carry_of root p (rests_with root plans e piece low room may i p here) (valid i p here);
+  apart = apart_with plans e piece may.apart;
+}
+
 -- Plans that may be carried out still may with one more message.
 pub ready_more : (root : Root) (plans : List Plan) (next e : ℕ) (piece line : List ℕ) → e ≤ 63 → (plan_of plans kind.Epoch e ≡ None → (get_or root.epochs e no_place).length < 2 ^ 62) → length line ≡ record_size root.config.form → AreValid (with_record (plans_with plans e piece) line) → IsReadyPlan root plans next
     → IsReadyPlan root (with_record (plans_with plans e piece) line) (next + 1)
@@ -173,7 +183,7 @@ ready_more root plans next e piece line low room size valid ready =
     ap (λ (o : Option Plan). (map_planned (root.sequence + 1) o root.map).length) map_new ∙ ap (λ (t : Target). (map_by (root.sequence + 1) t root.map (plan_count (with_bytes ready.map_plan line))).length) ready.map_anew in
     record {
       plans_may = record {
-        each = λ i p here. carry_of root p (each_record (MayRest root) mid line (each_with (MayRest root) plans e piece (λ j q there. rest_of root q (ready.plans_may.each j q there)) (rest_more root piece) (λ none. rest_new root piece e (omega (arith, low)) (room none))) (rest_more root line) i p here) (valid i p here);
+        each = λ i p here. carry_of root p (each_record (MayRest root) mid line (rests_with root plans e piece low room ready.plans_may) (rest_more root line) i p here) (valid i p here);
         apart = apart_record mid line (apart_with plans e piece ready.plans_may.apart);
       };
       map = (let one = sizes_one root.config.form in let sum = sizes_sum root.config.form next 1 (next + 1) (omega arith) in omega (arith, is, count, was, size, one, sum));

@@ -27,7 +27,7 @@ use Rattle.root_change.proofs.Roots.{equal_or_not, other_test}
 use Rattle.git_objects.specs.declared.entry_kind.EntryKind.{EntryKind}
 use Rattle.git_objects.specs.declared.entry_kind.EntryKind.TheVariants.{Message, Deletion}
 use Rattle.mail_commits.specs.Entries.{commit_id, entry_bytes, magic}
-use Rattle.arch_model.specs.Archives.{Entry, Archive, in_epoch, is_message, without_text, without_entries}
+use Rattle.arch_model.specs.Archives.{Entry, Archive, in_epoch, is_message, without_text}
 use Rattle.arch_model.specs.Delivery.{greater, last_epoch}
 use Rattle.arch_model.specs.Epochs.{entries_bytes, epoch_bytes, last_commit}
 use Rattle.arch_model.specs.Validity.{IsEntry, Rise, number_after}
@@ -37,7 +37,7 @@ use Rattle.epoch_file.specs.Planning.{FinishesPlan, HasNext, IsFinished, IsOfEpo
 use Rattle.epoch_file.specs.Walking.{seen_at}
 use Rattle.store_finding.specs.declared.entries.StoredEntry.{StoredEntry}
 use Rattle.store_finding.specs.Files.{epoch_file_of}
-use Rattle.store_planning.specs.Planning.{ClosesAs, IsCurrent, IsPlannedUpTo, OpensBy, Planning, epoch_start, gone_of, gone_with, in_files, without_current}
+use Rattle.store_planning.specs.Planning.{ClosesAs, IsCurrent, IsKeptUpTo, OpensBy, Planning, epoch_start, gone_of, gone_with, in_files, without_current}
 use Rattle.store_finding.specs.Recovery.{bytes_in, parts_of}
 use Rattle.store_finding.specs.Kept.{StoreState, IsDiskWith, in_file, stored_after, stored_at}
 use Rattle.store_finding.proofs.Growing.{in_epoch-here, stored_more}
@@ -52,15 +52,6 @@ in_epoch_none (e ∷ es) x all = rw (other_test e.epoch x all.0) (in_epoch_none 
 -- An epoch that no later entry is in.
 in_epoch_front : (es more : List Entry) (x : ℕ) → AllByRecursion (λ (e : Entry). e.epoch ≢ x) more → in_epoch (es ++ more) x ≡ in_epoch es x
 in_epoch_front es more x all = filter-append (λ (e : Entry). e.epoch == x) es more ∙ (ap (λ (l : List Entry). in_epoch es x ++ l) (in_epoch_none more x all) ∙ append-nil (in_epoch es x))
-
--- What holds of all entries holds of those that stay.
-keep_all : (P : Entry → Type 0) (t : Bool) (e : Entry) (es : List Entry) → P e → AllByRecursion P es → AllByRecursion P (if t then e ∷ es else es)
-keep_all P true e es one all = (one, all)
-keep_all P false e es one all = all
-
-pub without_all : (P : Entry → Type 0) (es : List Entry) (text : List ℕ) → AllByRecursion P es → AllByRecursion P (without_text es text)
-without_all P [] text all = tt
-without_all P (e ∷ es) text all = keep_all P (not (bytes_eq text e.text)) e (without_text es text) all.0 (without_all P es text all.1)
 
 -- Entries with one more that stays, or that doesn't.
 kept_step : (t : Bool) (e : Entry) (es : List Entry) → t ≡ true → (if t then e ∷ es else es) ≡ e ∷ es
@@ -177,14 +168,14 @@ no_both : (s t : Bool) (n : ℕ) → t ≡ false → (if s && t then n ∷ [] el
 no_both true t n is = ap (λ (b : Bool). if b then n ∷ [] else []) is
 no_both false t n is = refl
 
-gone_kept : (es : List Entry) (e : Entry) (text : List ℕ) → bytes_eq text e.text ≡ false → gone_of (es ++ e ∷ []) text ≡ gone_of es text
+pub gone_kept : (es : List Entry) (e : Entry) (text : List ℕ) → bytes_eq text e.text ≡ false → gone_of (es ++ e ∷ []) text ≡ gone_of es text
 gone_kept es e text other = gone_append es e text ∙ (ap (λ (l : List ℕ). gone_of es text ++ l) (no_both (is_message e.kind) (bytes_eq text e.text) e.number other) ∙ append-nil (gone_of es text))
 
 gone_kind : (k : EntryKind) (t : Bool) (ns : List ℕ) (n : ℕ) → t ≡ true → ns ++ (if is_message k && t then n ∷ [] else []) ≡ gone_with k ns n
 gone_kind Message t ns n is = ap (λ (b : Bool). ns ++ (if b then n ∷ [] else [])) is
 gone_kind Deletion t ns n is = append-nil ns
 
-gone_left : (es : List Entry) (e : Entry) (text : List ℕ) → bytes_eq text e.text ≡ true → gone_of (es ++ e ∷ []) text ≡ gone_with e.kind (gone_of es text) e.number
+pub gone_left : (es : List Entry) (e : Entry) (text : List ℕ) → bytes_eq text e.text ≡ true → gone_of (es ++ e ∷ []) text ≡ gone_with e.kind (gone_of es text) e.number
 gone_left es e text this = gone_append es e text ∙ gone_kind e.kind (bytes_eq text e.text) (gone_of es text) e.number this
 
 -- The first plan, if it is that of the part, and the others, if it isn't.
@@ -202,17 +193,16 @@ each_plan P (x ∷ xs) last each one zero p is = each zero p is
 each_plan P (x ∷ xs) last each one (suc i) p is = each_plan P xs last (λ j q here. each (suc j) q here) one i p is
 
 -- A plan is ready for the next entry: epochs before its own are planned whole, and none from it on.
-pub record IsOpened (texts : Texts) (root : Root) (a : Archive) (es : List Entry) (text : List ℕ) (n : ℕ) (mid : Planning) (plan : Planned) : Type 0 where
-  pub entries : mid.entries ≡ stored_after a.config.form [] (without_text es text)
-  pub gone : mid.gone ≡ gone_of es text
-  pub before : (x : ℕ) → x < n → planned texts (plan_of mid.plans kind.Epoch x) (bytes_in a x) ≡ bytes_in (without_entries a text) x
+pub record IsOpened (texts : Texts) (root : Root) (a : Archive) (es kept : List Entry) (n : ℕ) (mid : Planning) (plan : Planned) : Type 0 where
+  pub entries : mid.entries ≡ stored_after a.config.form [] kept
+  pub before : (x : ℕ) → x < n → planned texts (plan_of mid.plans kind.Epoch x) (bytes_in a x) ≡ epoch_bytes a.config.form (in_epoch kept x)
   pub after : (x : ℕ) → n ≤ x → plan_of mid.plans kind.Epoch x ≡ None
   pub map : (x : ℕ) → plan_of mid.plans kind.Map x ≡ None
   pub whole : (i : ℕ) (p : Plan) → slice_get mid.plans i ≡ Some p → IsPlanWhole texts p
   pub file : plan.file ≡ epoch_file_of root n
   pub form_is : plan.form ≡ a.config.form
   pub own_form : mid.form ≡ a.config.form
-  pub is : IsPlanned texts (in_files (in_epoch es n)) (in_files (in_epoch (without_text es text) n)) plan
+  pub is : IsPlanned texts (in_files (in_epoch es n)) (in_files (in_epoch kept n)) plan
 
 -- The bytes of an epoch by its plan, if it has one.
 pub planned_none : (texts : Texts) (p : Option Plan) (before : List ℕ) → p ≡ None → planned texts p before ≡ before
@@ -222,43 +212,40 @@ pub epochs_same : (form : Form) (es fs : List Entry) → in_files fs ≡ in_file
 epochs_same form es fs is = file_is form es ∙ (ap (file_of form) (sym is) ∙ sym (file_is form fs))
 
 -- The current epoch was closed: epochs up to it are planned whole, and none after it.
-pub record IsShut (texts : Texts) (a : Archive) (es : List Entry) (text : List ℕ) (mid : Planning) : Type 0 where
-  pub entries : mid.entries ≡ stored_after a.config.form [] (without_text es text)
-  pub gone : mid.gone ≡ gone_of es text
-  pub before : (x : ℕ) → x ≤ last_epoch es → planned texts (plan_of mid.plans kind.Epoch x) (bytes_in a x) ≡ bytes_in (without_entries a text) x
+pub record IsShut (texts : Texts) (a : Archive) (es kept : List Entry) (mid : Planning) : Type 0 where
+  pub entries : mid.entries ≡ stored_after a.config.form [] kept
+  pub before : (x : ℕ) → x ≤ last_epoch es → planned texts (plan_of mid.plans kind.Epoch x) (bytes_in a x) ≡ epoch_bytes a.config.form (in_epoch kept x)
   pub after : (x : ℕ) → last_epoch es < x → plan_of mid.plans kind.Epoch x ≡ None
   pub map : (x : ℕ) → plan_of mid.plans kind.Map x ≡ None
   pub whole : (i : ℕ) (p : Plan) → slice_get mid.plans i ≡ Some p → IsPlanWhole texts p
   pub own_form : mid.form ≡ a.config.form
 
-module _ (texts : Texts) (root : Root) (a : Archive) (es : List Entry) (text : List ℕ) (old : Planning) (up : IsPlannedUpTo texts root a es text old) (c : Planned) (current : IsCurrent a.config.form texts root es text (Some c))
-    (reads : (x : ℕ) → x ≤ last_epoch es → bytes_in a x ≡ epoch_bytes a.config.form (in_epoch es x)) (keeps : (x : ℕ) → x ≤ last_epoch es → bytes_in (without_entries a text) x ≡ epoch_bytes a.config.form (in_epoch (without_text es text) x)) where
-  pub shut : (finished : Option Plan) → FinishesPlan c finished → IsOfEpoch c.file finished → (mid : Planning) → ClosesAs (without_current old) finished mid → IsShut texts a es text mid
-  shut None finishes of mid stays = subst (IsShut texts a es text) (sym stays) (record {
+module _ (texts : Texts) (root : Root) (a : Archive) (es kept : List Entry) (old : Planning) (up : IsKeptUpTo texts root a es kept old) (c : Planned) (current : IsCurrent a.config.form texts root es kept (Some c))
+    (reads : (x : ℕ) → x ≤ last_epoch es → bytes_in a x ≡ epoch_bytes a.config.form (in_epoch es x)) where
+  pub shut : (finished : Option Plan) → FinishesPlan c finished → IsOfEpoch c.file finished → (mid : Planning) → ClosesAs (without_current old) finished mid → IsShut texts a es kept mid
+  shut None finishes of mid stays = subst (IsShut texts a es kept) (sym stays) (record {
     entries = up.entries;
-    gone = up.gone;
     before = λ x most. elim (cases_lt x (last_epoch es)) [
       | inl low ↦ up.before x low
       | inr high ↦
           let x_is : last_epoch es ≡ x = omega (arith, high, most) in
-          let unchanged : in_files (in_epoch (without_text es text) (last_epoch es)) ≡ in_files (in_epoch es (last_epoch es)) = finishes texts (in_files (in_epoch es (last_epoch es))) (in_files (in_epoch (without_text es text) (last_epoch es))) current.1 in
-          let so : epoch_bytes a.config.form (in_epoch es x) ≡ epoch_bytes a.config.form (in_epoch (without_text es text) x) = subst (λ (n : ℕ). epoch_bytes a.config.form (in_epoch es n) ≡ epoch_bytes a.config.form (in_epoch (without_text es text) n)) x_is (epochs_same a.config.form (in_epoch es (last_epoch es)) (in_epoch (without_text es text) (last_epoch es)) unchanged) in
-          planned_none texts (plan_of old.plans kind.Epoch x) (bytes_in a x) (up.after x high) ∙ (reads x most ∙ (so ∙ sym (keeps x most)))
+          let unchanged : in_files (in_epoch kept (last_epoch es)) ≡ in_files (in_epoch es (last_epoch es)) = finishes texts (in_files (in_epoch es (last_epoch es))) (in_files (in_epoch kept (last_epoch es))) current.1 in
+          let so : epoch_bytes a.config.form (in_epoch es x) ≡ epoch_bytes a.config.form (in_epoch kept x) = subst (λ (n : ℕ). epoch_bytes a.config.form (in_epoch es n) ≡ epoch_bytes a.config.form (in_epoch kept n)) x_is (epochs_same a.config.form (in_epoch es (last_epoch es)) (in_epoch kept (last_epoch es)) unchanged) in
+          planned_none texts (plan_of old.plans kind.Epoch x) (bytes_in a x) (up.after x high) ∙ (reads x most ∙ so)
     ];
     after = λ x high. up.after x (omega (arith, high));
     map = up.map;
     whole = up.whole;
     own_form = up.form;
   })
-  shut (Some plan) finishes of mid pushed = subst (IsShut texts a es text) (sym pushed.0) (record {
+  shut (Some plan) finishes of mid pushed = subst (IsShut texts a es kept) (sym pushed.0) (record {
     entries = up.entries;
-    gone = up.gone;
     before = λ x most. elim (equal_or_not x (last_epoch es)) [
       | inl x_is ↦
           let here : plan_of (old.plans ++ plan ∷ []) kind.Epoch x ≡ Some plan = of_more old.plans (plan ∷ []) kind.Epoch x (up.after x (omega (arith, x_is))) ∙ of_first plan [] kind.Epoch x (is_of_own plan kind.Epoch x of.kind (number_is ∙ sym x_is)) in
-          let written : written_by texts plan ≡ file_of a.config.form (in_files (in_epoch (without_text es text) x)) = subst (λ (n : ℕ). written_by texts plan ≡ file_of a.config.form (in_files (in_epoch (without_text es text) n))) (sym x_is) whole_so.2 in
+          let written : written_by texts plan ≡ file_of a.config.form (in_files (in_epoch kept x)) = subst (λ (n : ℕ). written_by texts plan ≡ file_of a.config.form (in_files (in_epoch kept n))) (sym x_is) whole_so.2 in
           ap (λ (o : Option Plan). planned texts o (bytes_in a x)) here
-          ∙ (ap (λ (t : Target). bytes_by t (bytes_in a x) (written_by texts plan)) of.target ∙ (written ∙ (sym (file_is a.config.form (in_epoch (without_text es text) x)) ∙ sym (keeps x most))))
+          ∙ (ap (λ (t : Target). bytes_by t (bytes_in a x) (written_by texts plan)) of.target ∙ (written ∙ sym (file_is a.config.form (in_epoch kept x))))
       | inr other ↦
           let stays : plan_of (old.plans ++ plan ∷ []) kind.Epoch x ≡ plan_of old.plans kind.Epoch x = of_others old.plans plan kind.Epoch x (other_part plan kind.Epoch x (λ k_is n_is. other (sym n_is ∙ number_is))) in
           ap (λ (o : Option Plan). planned texts o (bytes_in a x)) stays ∙ up.before x (omega (arith, most, other))
@@ -271,13 +258,13 @@ module _ (texts : Texts) (root : Root) (a : Archive) (es : List Entry) (text : L
     number_is : plan.number ≡ last_epoch es
     number_is = of.number ∙ ap (λ (f : FileName). f.number) current.0
 
-    whole_so : IsFinished a.config.form texts (in_files (in_epoch es (last_epoch es))) (in_files (in_epoch (without_text es text) (last_epoch es))) (Some plan)
+    whole_so : IsFinished a.config.form texts (in_files (in_epoch es (last_epoch es))) (in_files (in_epoch kept (last_epoch es))) (Some plan)
     whole_so =
-        subst (λ (g : Form). IsFinished g texts (in_files (in_epoch es (last_epoch es))) (in_files (in_epoch (without_text es text) (last_epoch es))) (Some plan)) current.2
-        (finishes texts (in_files (in_epoch es (last_epoch es))) (in_files (in_epoch (without_text es text) (last_epoch es))) current.1)
+        subst (λ (g : Form). IsFinished g texts (in_files (in_epoch es (last_epoch es))) (in_files (in_epoch kept (last_epoch es))) (Some plan)) current.2
+        (finishes texts (in_files (in_epoch es (last_epoch es))) (in_files (in_epoch kept (last_epoch es))) current.1)
 
 -- The next entry of an archive on its disk.
-module _ (k : Content) (v : StoreState) (cache : List ℕ) (a : Archive) (own : IsDiskWith v cache a k) (es rest : List Entry) (e : Entry) (is : a.entries ≡ es ++ e ∷ rest) (text : List ℕ) where
+module _ (k : Content) (v : StoreState) (cache : List ℕ) (a : Archive) (own : IsDiskWith v cache a k) (es rest : List Entry) (e : Entry) (is : a.entries ≡ es ++ e ∷ rest) where
   rise : Rise 1 0 (es ++ e ∷ rest)
   rise = subst (Rise 1 0) is own.keeps.valid.order
 
@@ -293,12 +280,6 @@ module _ (k : Content) (v : StoreState) (cache : List ℕ) (a : Archive) (own : 
   -- The bytes of epochs before its own.
   bytes_before : (x : ℕ) → x < e.epoch → bytes_in a x ≡ epoch_bytes a.config.form (in_epoch es x)
   bytes_before x less = ap (λ (l : List Entry). epoch_bytes a.config.form (in_epoch l x)) is ∙ ap (epoch_bytes a.config.form) (in_epoch_front es (e ∷ rest) x (apart_later x less))
-
-  kept_before : (x : ℕ) → x < e.epoch → bytes_in (without_entries a text) x ≡ epoch_bytes a.config.form (in_epoch (without_text es text) x)
-  kept_before x less =
-      ap (λ (l : List Entry). epoch_bytes a.config.form (in_epoch (without_text l text) x)) is
-      ∙ (ap (λ (l : List Entry). epoch_bytes a.config.form (in_epoch l x)) (without_append es (e ∷ rest) text)
-      ∙ ap (epoch_bytes a.config.form) (in_epoch_front (without_text es text) (without_text (e ∷ rest) text) x (without_all (λ (f : Entry). f.epoch ≢ x) (e ∷ rest) text (apart_later x less))))
 
   -- No entry so far is in an epoch after the last one.
   none_so_far : (x : ℕ) → last_epoch es < x → AllByRecursion (λ (f : Entry). f.epoch ≢ x) es
@@ -336,7 +317,7 @@ module _ (k : Content) (v : StoreState) (cache : List ℕ) (a : Archive) (own : 
         is = file_reads ∙ (bytes_are ∙ (ap (λ (b : List ℕ). magic a.config.form ++ b) (chain_split a.config.form None xs e ys) ∙ sym (append_assoc (magic a.config.form) (chain a.config.form None (in_files xs ++ in_file e ∷ [])) more)));
       }
 
-  module _ (old : Planning) (up : IsPlannedUpTo (texts_in k) v.root a es text old) (file : FileName) (file_by : file ≡ epoch_file_of v.root e.epoch) where
+  module _ (kept : List Entry) (old : Planning) (up : IsKeptUpTo (texts_in k) v.root a es kept old) (file : FileName) (file_by : file ≡ epoch_file_of v.root e.epoch) where
     abbrev top : ℕ
     top = last_epoch es
 
@@ -344,25 +325,24 @@ module _ (k : Content) (v : StoreState) (cache : List ℕ) (a : Archive) (own : 
     top_low = last_at_most es e.epoch earlier
 
     -- An epoch that no entry is in so far.
-    gap : (plans : List Plan) (x : ℕ) → x < e.epoch → plan_of plans kind.Epoch x ≡ None → AllByRecursion (λ (f : Entry). f.epoch ≢ x) es → planned (texts_in k) (plan_of plans kind.Epoch x) (bytes_in a x) ≡ bytes_in (without_entries a text) x
+    gap : (plans : List Plan) (x : ℕ) → x < e.epoch → plan_of plans kind.Epoch x ≡ None → AllByRecursion (λ (f : Entry). f.epoch ≢ x) es → planned (texts_in k) (plan_of plans kind.Epoch x) (bytes_in a x) ≡ epoch_bytes a.config.form (in_epoch kept x)
     gap plans x less none all =
         planned_none (texts_in k) (plan_of plans kind.Epoch x) (bytes_in a x) none
-        ∙ (bytes_before x less ∙ (ap (epoch_bytes a.config.form) (in_epoch_none es x all) ∙ (ap (epoch_bytes a.config.form) (sym (in_epoch_none (without_text es text) x (without_all (λ (f : Entry). f.epoch ≢ x) es text all))) ∙ sym (kept_before x less))))
+        ∙ (bytes_before x less ∙ (ap (epoch_bytes a.config.form) (in_epoch_none es x all) ∙ ap (epoch_bytes a.config.form) (sym (up.among x (in_epoch_none es x all)))))
 
     -- The plan of a file before its first entry.
-    starts : AllByRecursion (λ (f : Entry). f.epoch ≢ e.epoch) es → IsPlanned (texts_in k) (in_files (in_epoch es e.epoch)) (in_files (in_epoch (without_text es text) e.epoch)) (epoch_start old.form file)
+    starts : AllByRecursion (λ (f : Entry). f.epoch ≢ e.epoch) es → IsPlanned (texts_in k) (in_files (in_epoch es e.epoch)) (in_files (in_epoch kept e.epoch)) (epoch_start old.form file)
     starts all =
         let here = in_epoch_none es e.epoch all in
-        let kept = in_epoch_none (without_text es text) e.epoch (without_all (λ (f : Entry). f.epoch ≢ e.epoch) es text all) in
-        record { plan = ap in_files (kept ∙ sym here); parent = ap (λ (l : List Entry). last_of old.form None (in_files l)) (sym kept) }
+        let none = up.among e.epoch here in
+        record { plan = ap in_files (none ∙ sym here); parent = ap (λ (l : List Entry). last_of old.form None (in_files l)) (sym none) }
 
-    first : es ≡ [] → IsOpened (texts_in k) v.root a es text e.epoch (without_current old) (epoch_start old.form file)
+    first : es ≡ [] → IsOpened (texts_in k) v.root a es kept e.epoch (without_current old) (epoch_start old.form file)
     first none =
         let no : (x : ℕ) → AllByRecursion (λ (f : Entry). f.epoch ≢ x) es = λ x. subst (AllByRecursion (λ (f : Entry). f.epoch ≢ x)) (sym none) tt in
         let zero_is : top ≡ 0 = ap last_epoch none in
         record {
           entries = up.entries;
-          gone = up.gone;
           before = λ x less. gap old.plans x less (up.after x (omega (arith, zero_is))) (no x);
           after = λ x high. up.after x (omega (arith, zero_is));
           map = up.map;
@@ -373,12 +353,11 @@ module _ (k : Content) (v : StoreState) (cache : List ℕ) (a : Archive) (own : 
           is = starts (no e.epoch);
         }
 
-    same : (c : Planned) → IsCurrent a.config.form (texts_in k) v.root es text (Some c) → c.file ≡ file → IsOpened (texts_in k) v.root a es text e.epoch (without_current old) c
+    same : (c : Planned) → IsCurrent a.config.form (texts_in k) v.root es kept (Some c) → c.file ≡ file → IsOpened (texts_in k) v.root a es kept e.epoch (without_current old) c
     same c current here =
         let epoch_is : top ≡ e.epoch = ap (λ (f : FileName). f.number) (sym current.0 ∙ (here ∙ file_by)) in
         record {
           entries = up.entries;
-          gone = up.gone;
           before = λ x less. up.before x (omega (arith, less, epoch_is));
           after = λ x high. up.after x (omega (arith, high, epoch_is));
           map = up.map;
@@ -386,11 +365,11 @@ module _ (k : Content) (v : StoreState) (cache : List ℕ) (a : Archive) (own : 
           file = here ∙ file_by;
           form_is = current.2;
           own_form = up.form;
-          is = subst (λ (n : ℕ). IsPlanned (texts_in k) (in_files (in_epoch es n)) (in_files (in_epoch (without_text es text) n)) c) epoch_is current.1;
+          is = subst (λ (n : ℕ). IsPlanned (texts_in k) (in_files (in_epoch es n)) (in_files (in_epoch kept n)) c) epoch_is current.1;
         }
 
     -- The current epoch is before this one, and was closed.
-    module _ (c : Planned) (current : IsCurrent a.config.form (texts_in k) v.root es text (Some c)) (apart : c.file ≢ file) where
+    module _ (c : Planned) (current : IsCurrent a.config.form (texts_in k) v.root es kept (Some c)) (apart : c.file ≢ file) where
       below : top < e.epoch
       below = elim (cases_lt top e.epoch) [
         | inl less ↦ less
@@ -400,13 +379,12 @@ module _ (k : Content) (v : StoreState) (cache : List ℕ) (a : Archive) (own : 
       no_more : (x : ℕ) → top < x → AllByRecursion (λ (f : Entry). f.epoch ≢ x) es
       no_more x less = none_so_far x less
 
-      closed : (finished : Option Plan) → FinishesPlan c finished → IsOfEpoch c.file finished → (mid : Planning) → ClosesAs (without_current old) finished mid → IsOpened (texts_in k) v.root a es text e.epoch mid (epoch_start old.form file)
+      closed : (finished : Option Plan) → FinishesPlan c finished → IsOfEpoch c.file finished → (mid : Planning) → ClosesAs (without_current old) finished mid → IsOpened (texts_in k) v.root a es kept e.epoch mid (epoch_start old.form file)
       closed finished finishes of mid closes =
           let less = below in
-          let shut_so = shut (texts_in k) v.root a es text old up c current (λ x low. bytes_before x (omega (arith, low, less))) (λ x low. kept_before x (omega (arith, low, less))) finished finishes of mid closes in
+          let shut_so = shut (texts_in k) v.root a es kept old up c current (λ x low. bytes_before x (omega (arith, low, less))) finished finishes of mid closes in
           record {
             entries = shut_so.entries;
-            gone = shut_so.gone;
             before = λ x low. elim (cases_lt top x) [
               | inl above ↦ gap mid.plans x low (shut_so.after x above) (no_more x above)
               | inr most ↦ shut_so.before x (omega (arith, most))
@@ -421,16 +399,16 @@ module _ (k : Content) (v : StoreState) (cache : List ℕ) (a : Archive) (own : 
           }
 
     -- The plan of the entry's file, whatever was current.
-    pub opened : (current : Option Planned) → IsCurrent a.config.form (texts_in k) v.root es text current → (mid : Planning) (plan : Planned) → OpensBy old file current mid plan → IsOpened (texts_in k) v.root a es text e.epoch mid plan
+    pub opened : (current : Option Planned) → IsCurrent a.config.form (texts_in k) v.root es kept current → (mid : Planning) (plan : Planned) → OpensBy old file current mid plan → IsOpened (texts_in k) v.root a es kept e.epoch mid plan
     opened None none mid plan by =
-        subst (λ (p : Planning). IsOpened (texts_in k) v.root a es text e.epoch p plan) (sym by.0) (subst (IsOpened (texts_in k) v.root a es text e.epoch (without_current old)) (sym by.1) (first none))
+        subst (λ (p : Planning). IsOpened (texts_in k) v.root a es kept e.epoch p plan) (sym by.0) (subst (IsOpened (texts_in k) v.root a es kept e.epoch (without_current old)) (sym by.1) (first none))
     opened (Some c) current mid plan (inl here) =
-        subst (λ (p : Planning). IsOpened (texts_in k) v.root a es text e.epoch p plan) (sym here.2) (subst (IsOpened (texts_in k) v.root a es text e.epoch (without_current old)) (sym here.1) (same c current here.0))
+        subst (λ (p : Planning). IsOpened (texts_in k) v.root a es kept e.epoch p plan) (sym here.2) (subst (IsOpened (texts_in k) v.root a es kept e.epoch (without_current old)) (sym here.1) (same c current here.0))
     opened (Some c) current mid plan (inr next) =
-        subst (IsOpened (texts_in k) v.root a es text e.epoch mid) (sym next.1) (closed c current next.0 next.2.0 next.2.1 next.2.2 mid next.2.3)
+        subst (IsOpened (texts_in k) v.root a es kept e.epoch mid) (sym next.1) (closed c current next.0 next.2.0 next.2.1 next.2.2 mid next.2.3)
 
   -- One more entry was planned.
-  module _ (mid : Planning) (plan : Planned) (open_ : IsOpened (texts_in k) v.root a es text e.epoch mid plan) (after : Planned) (after_file : after.file ≡ plan.file) (after_form : after.form ≡ plan.form) where
+  module _ (kept : List Entry) (mid : Planning) (plan : Planned) (among : (x : ℕ) → in_epoch es x ≡ [] → in_epoch kept x ≡ []) (open_ : IsOpened (texts_in k) v.root a es kept e.epoch mid plan) (after : Planned) (after_file : after.file ≡ plan.file) (after_form : after.form ≡ plan.form) where
     here_more : in_files (in_epoch (es ++ e ∷ []) e.epoch) ≡ in_files (in_epoch es e.epoch) ++ in_file e ∷ []
     here_more = ap in_files (in_epoch-here es e e.epoch refl) ∙ files_more (in_epoch es e.epoch) e
 
@@ -438,40 +416,42 @@ module _ (k : Content) (v : StoreState) (cache : List ℕ) (a : Archive) (own : 
     abbrev pub with_plan : List StoredEntry → List ℕ → Planning
     with_plan entries gone = record { plans = mid.plans; entries = entries; gone = gone; current = Some after; form = mid.form }
 
-    up_more : (entries : List StoredEntry) (gone : List ℕ) → entries ≡ stored_after a.config.form [] (without_text (es ++ e ∷ []) text) → gone ≡ gone_of (es ++ e ∷ []) text
-        → IsPlanned (texts_in k) (in_files (in_epoch es e.epoch) ++ in_file e ∷ []) (in_files (in_epoch (without_text (es ++ e ∷ []) text) e.epoch)) after → IsPlannedUpTo (texts_in k) v.root a (es ++ e ∷ []) text (with_plan entries gone)
-    up_more entries gone entries_are gone_are planned_so =
+    -- An epoch that still has no entry isn't the entry's own, and had none before.
+    still_none : (x : ℕ) → in_epoch (es ++ e ∷ []) x ≡ [] → (e.epoch ≢ x) × (in_epoch es x ≡ [])
+    still_none x none = elim (equal_or_not e.epoch x) [
+      | inl same ↦ absurd (no_more (in_epoch es x) e (sym (in_epoch-here es e x same) ∙ none))
+      | inr apart ↦ (apart, sym (in_epoch_front es (e ∷ []) x (apart, tt)) ∙ none)
+    ] where
+      no_more : (fs : List Entry) (f : Entry) → fs ++ f ∷ [] ≡ [] → ⊥
+      no_more fs f is = let size : length (fs ++ f ∷ []) ≡ 0 = ap length is in let parts = length-append fs (f ∷ []) in absurd (omega (arith, size, parts))
+
+    up_more : (stays : List Entry) (entries : List StoredEntry) (gone : List ℕ) → entries ≡ stored_after a.config.form [] stays → ((x : ℕ) → e.epoch ≢ x → in_epoch stays x ≡ in_epoch kept x)
+        → IsPlanned (texts_in k) (in_files (in_epoch es e.epoch) ++ in_file e ∷ []) (in_files (in_epoch stays e.epoch)) after → IsKeptUpTo (texts_in k) v.root a (es ++ e ∷ []) stays (with_plan entries gone)
+    up_more stays entries gone entries_are others planned_so =
         let n = last_more es e earlier in
         record {
           entries = entries_are;
-          gone = gone_are;
-          before = λ x less. open_.before x (omega (arith, less, n));
+          among = λ x none. (let so = still_none x none in others x so.0 ∙ among x so.1);
+          before = λ x less. (let low : x < e.epoch = omega (arith, less, n) in open_.before x low ∙ ap (epoch_bytes a.config.form) (sym (others x (λ same. absurd (omega (arith, same, low))))));
           after = λ x high. open_.after x (omega (arith, high, n));
           map = open_.map;
           whole = open_.whole;
-          current = subst (λ (m : ℕ). (after.file ≡ epoch_file_of v.root m) × IsPlanned (texts_in k) (in_files (in_epoch (es ++ e ∷ []) m)) (in_files (in_epoch (without_text (es ++ e ∷ []) text) m)) after × (after.form ≡ a.config.form)) (sym n) (
+          current = subst (λ (m : ℕ). (after.file ≡ epoch_file_of v.root m) × IsPlanned (texts_in k) (in_files (in_epoch (es ++ e ∷ []) m)) (in_files (in_epoch stays m)) after × (after.form ≡ a.config.form)) (sym n) (
             after_file ∙ open_.file,
-            subst (λ (l : List EpochEntry). IsPlanned (texts_in k) l (in_files (in_epoch (without_text (es ++ e ∷ []) text) e.epoch)) after) (sym here_more) planned_so,
+            subst (λ (l : List EpochEntry). IsPlanned (texts_in k) l (in_files (in_epoch stays e.epoch)) after) (sym here_more) planned_so,
             after_form ∙ open_.form_is,
           );
           form = open_.own_form;
         }
 
-    pub up_kept : (made : StoredEntry) → bytes_eq text e.text ≡ false → made ≡ stored_at a.config.form (without_text es text) e
-        → IsPlanned (texts_in k) (in_files (in_epoch es e.epoch) ++ in_file e ∷ []) (in_files (in_epoch (without_text es text) e.epoch) ++ in_file e ∷ []) after → IsPlannedUpTo (texts_in k) v.root a (es ++ e ∷ []) text (with_plan (mid.entries ++ made ∷ []) mid.gone)
-    up_kept made other made_is planned_so =
-        let stays = without_kept es e text other in
-        up_more (mid.entries ++ made ∷ []) mid.gone
-        (ap (λ (l : List StoredEntry). l ++ made ∷ []) open_.entries ∙ (ap (λ (s : StoredEntry). stored_after a.config.form [] (without_text es text) ++ s ∷ []) made_is ∙ (sym (stored_more a.config.form [] (without_text es text) e) ∙ ap (stored_after a.config.form []) (sym stays))))
-        (open_.gone ∙ sym (gone_kept es e text other))
+    pub up_kept : (made : StoredEntry) → made ≡ stored_at a.config.form kept e
+        → IsPlanned (texts_in k) (in_files (in_epoch es e.epoch) ++ in_file e ∷ []) (in_files (in_epoch kept e.epoch) ++ in_file e ∷ []) after → IsKeptUpTo (texts_in k) v.root a (es ++ e ∷ []) (kept ++ e ∷ []) (with_plan (mid.entries ++ made ∷ []) mid.gone)
+    up_kept made made_is planned_so =
+        up_more (kept ++ e ∷ []) (mid.entries ++ made ∷ []) mid.gone
+        (ap (λ (l : List StoredEntry). l ++ made ∷ []) open_.entries ∙ (ap (λ (s : StoredEntry). stored_after a.config.form [] kept ++ s ∷ []) made_is ∙ sym (stored_more a.config.form [] kept e)))
+        (λ x apart. in_epoch_front kept (e ∷ []) x (apart, tt))
         (subst (λ (l : List EpochEntry). IsPlanned (texts_in k) (in_files (in_epoch es e.epoch) ++ in_file e ∷ []) l after)
-        (sym (ap (λ (l : List Entry). in_files (in_epoch l e.epoch)) stays ∙ (ap in_files (in_epoch-here (without_text es text) e e.epoch refl) ∙ files_more (in_epoch (without_text es text) e.epoch) e))) planned_so)
+        (sym (ap in_files (in_epoch-here kept e e.epoch refl) ∙ files_more (in_epoch kept e.epoch) e)) planned_so)
 
-    pub up_left : bytes_eq text e.text ≡ true
-        → IsPlanned (texts_in k) (in_files (in_epoch es e.epoch) ++ in_file e ∷ []) (in_files (in_epoch (without_text es text) e.epoch)) after → IsPlannedUpTo (texts_in k) v.root a (es ++ e ∷ []) text (with_plan mid.entries (gone_with e.kind mid.gone e.number))
-    up_left this planned_so =
-        let dropped = without_left es e text this in
-        up_more mid.entries (gone_with e.kind mid.gone e.number)
-        (open_.entries ∙ ap (stored_after a.config.form []) (sym dropped))
-        (ap (λ (l : List ℕ). gone_with e.kind l e.number) open_.gone ∙ sym (gone_left es e text this))
-        (subst (λ (l : List EpochEntry). IsPlanned (texts_in k) (in_files (in_epoch es e.epoch) ++ in_file e ∷ []) l after) (sym (ap (λ (l : List Entry). in_files (in_epoch l e.epoch)) dropped)) planned_so)
+    pub up_left : (gone : List ℕ) → IsPlanned (texts_in k) (in_files (in_epoch es e.epoch) ++ in_file e ∷ []) (in_files (in_epoch kept e.epoch)) after → IsKeptUpTo (texts_in k) v.root a (es ++ e ∷ []) kept (with_plan mid.entries gone)
+    up_left gone planned_so = up_more kept mid.entries gone open_.entries (λ x apart. refl) planned_so

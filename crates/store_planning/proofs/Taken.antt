@@ -22,7 +22,7 @@ use Rattle.store_finding.specs.declared.entries.StoredEntry.{StoredEntry}
 use Rattle.store_finding.specs.Damage.{named_length}
 use Rattle.store_finding.specs.Extents.{AreNamedAfter, ComesAfter, LieFrom, length_planned}
 use Rattle.store_finding.specs.Files.{epoch_file_of, map_file_of}
-use Rattle.store_planning.specs.Planning.{ArePlansIn, AreWithin, ClosesEpoch, ClosesAs, ClosesLast, EndByCurrent, EndsInPlan, FinishesPlans, IsFileIn, IsPlanWithin, IsTakenToOffset, IsTakenUpTo, PlansEntry, LeavesOut, OpensBy, OpensPlan, Planning, PlanTakes, epoch_start, kept_anew, no_planning, without_current}
+use Rattle.store_planning.specs.Planning.{ArePlansIn, AreWithin, ClosesEpoch, ClosesAs, ClosesLast, EndByCurrent, EndsInPlan, FinishesPlans, IsFileIn, IsPlanWithin, IsTakenSo, IsTakenToOffset, IsTakenUpTo, PlansEntry, LeavesOut, OpensBy, OpensPlan, Planning, PlanTakes, epoch_start, kept_anew, no_planning, without_current}
 use Rattle.store_finding.proofs.Extents.{all_more, lie_more}
 use Rattle.store_planning.proofs.PlannedExtents.{anew_planned, none_planned}
 use Rattle.store_planning.proofs.Messaged.{epoch_isnt_map}
@@ -236,7 +236,32 @@ kept_on old file e content mid new plan opens keeps = λ root epoch from file_is
       );
     })
 
--- All entries were taken: the current epoch is closed, and the map is planned.
+-- What is known once the last epoch is closed.
+pub record IsAllShut (root : Root) (p : Planning) : Type 0 where
+  pub lie : LieFrom 0 0 p.entries
+  pub within : (i : ℕ) (plan : Plan) → slice_get p.plans i ≡ Some plan → IsPlanWithin root plan
+  pub ends : AllByRecursion (λ (e : StoredEntry). tree_end e.seen ≤ length_planned root p.plans e.epoch) p.entries
+
+-- All entries were taken: the current epoch is closed.
+module _ (root : Root) (old mid : Planning) (are : ArePlansIn root old) (taken : IsTakenToOffset root old) where
+  by_last : (current : Option Planned) → IsFileIn root current → EndByCurrent root old taken.epoch taken.from current → ClosesLast old current mid → IsAllShut root mid
+  by_last None in_ none is = subst (IsAllShut root) (sym is) (record {
+    lie = taken.taken.lie;
+    within = λ i p here. epoch_within root p (are.each i p here) (taken.taken.ranges i p here);
+    ends = subst (AllByRecursion (λ (e : StoredEntry). tree_end e.seen ≤ length_planned root old.plans e.epoch)) (sym none.1) tt;
+  })
+  by_last (Some c) in_ current closes =
+      let so = shut root taken.epoch taken.from old c taken.taken.ranges taken.taken.later taken.taken.inside current mid closes in
+      record {
+        lie = subst (LieFrom 0 0) (sym (closed_same (without_current old) closes.0 mid closes.3)) taken.taken.lie;
+        within = λ i p here. epoch_within root p (closed_in root (without_current old) c closes.0 mid are.each in_ closes.2 closes.3 i p here) (so.ranges i p here);
+        ends = all_weaker (EndsUpTo root mid.plans taken.epoch) (λ (e : StoredEntry). tree_end e.seen ≤ length_planned root mid.plans e.epoch) mid.entries (λ e up. up.1) so.ends;
+      }
+
+  pub all_shut : ClosesLast old old.current mid → IsAllShut root mid
+  all_shut closes = by_last old.current are.current taken.taken.ends closes
+
+-- The map is planned, too.
 module _ (root : Root) (old : Planning) (map : FileName) (count : ℕ) (new : Planning) (finishes : FinishesPlans old map count new) (map_is : map ≡ map_file_of root) (long : root.map.length ≡ record_size root.config.form * count) (are : ArePlansIn root old) (taken : IsTakenToOffset root old) where
   abbrev mid : Planning
   mid = finishes.0
@@ -247,28 +272,8 @@ module _ (root : Root) (old : Planning) (map : FileName) (count : ℕ) (new : Pl
   plans_are : new.plans ≡ mid.plans ++ finishes.2.0 ∷ []
   plans_are = ap (λ (p : Planning). p.plans) finishes.2.2.0
 
-  -- What is known without the map.
-  record IsAllShut (p : Planning) : Type 0 where
-    lie : LieFrom 0 0 p.entries
-    within : (i : ℕ) (plan : Plan) → slice_get p.plans i ≡ Some plan → IsPlanWithin root plan
-    ends : AllByRecursion (λ (e : StoredEntry). tree_end e.seen ≤ length_planned root p.plans e.epoch) p.entries
-
-  all_shut : (current : Option Planned) → IsFileIn root current → EndByCurrent root old taken.epoch taken.from current → ClosesLast old current mid → IsAllShut mid
-  all_shut None in_ none is = subst IsAllShut (sym is) (record {
-    lie = taken.taken.lie;
-    within = λ i p here. epoch_within root p (are.each i p here) (taken.taken.ranges i p here);
-    ends = subst (AllByRecursion (λ (e : StoredEntry). tree_end e.seen ≤ length_planned root old.plans e.epoch)) (sym none.1) tt;
-  })
-  all_shut (Some c) in_ current closes =
-      let so = shut root taken.epoch taken.from old c taken.taken.ranges taken.taken.later taken.taken.inside current mid closes in
-      record {
-        lie = subst (LieFrom 0 0) (sym (closed_same (without_current old) closes.0 mid closes.3)) taken.taken.lie;
-        within = λ i p here. epoch_within root p (closed_in root (without_current old) c closes.0 mid are.each in_ closes.2 closes.3 i p here) (so.ranges i p here);
-        ends = all_weaker (EndsUpTo root mid.plans taken.epoch) (λ (e : StoredEntry). tree_end e.seen ≤ length_planned root mid.plans e.epoch) mid.entries (λ e up. up.1) so.ends;
-      }
-
-  so : IsAllShut mid
-  so = all_shut old.current are.current taken.taken.ends finishes.1
+  so : IsAllShut root mid
+  so = all_shut root old mid are taken finishes.1
 
   pub finished_within : AreWithin root new.plans
   finished_within = λ i p here. each_plan (IsPlanWithin root) mid.plans finishes.2.0 so.within (map_within root.config.form root map count mid.gone finishes.2.0 map_is long of) i p (ap (λ (l : List Plan). slice_get l i) (sym plans_are) ∙ here)
@@ -287,14 +292,7 @@ module _ (root : Root) (old : Planning) (map : FileName) (count : ℕ) (new : Pl
             (all_weaker (λ (e : StoredEntry). tree_end e.seen ≤ length_planned root mid.plans e.epoch) (λ (e : StoredEntry). tree_end e.seen ≤ length_planned root new.plans e.epoch) mid.entries (λ e up. (let long_ = same_long e.epoch in omega (arith, up, long_))) so.ends);
       }
 
--- So far the entries before this one were taken, and the others lie after them.
-pub record IsTakenSo (root : Root) (rest : List StoredEntry) (p : Planning) : Type 0 where
-  pub epoch : ℕ
-  pub from : ℕ
-  pub taken : IsTakenUpTo root epoch from p
-  pub lie : LieFrom epoch from rest
-  pub ends : AllByRecursion (λ (e : StoredEntry). tree_end e.seen ≤ named_length root e.epoch) rest
-
+-- One more entry was taken.
 drop_here : (es : List StoredEntry) (i : ℕ) (e : StoredEntry) → slice_get es i ≡ Some e → drop i es ≡ e ∷ drop (suc i) es
 drop_here [] i e here = absurd (let wrong : None ≡ Some e = here in cc)
 drop_here (x ∷ xs) zero e here = ap (λ (y : StoredEntry). y ∷ xs) (same_Some x e here)

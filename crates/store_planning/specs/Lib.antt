@@ -1,3 +1,5 @@
 pub mod DamagedTexts
 pub mod Planning
+pub mod Epochs
 pub mod Dropping
+pub mod Mapping

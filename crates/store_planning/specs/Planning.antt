@@ -27,7 +27,7 @@ use Rattle.git_objects.specs.declared.entry_kind.EntryKind.{EntryKind}
 use Rattle.git_objects.specs.declared.entry_kind.EntryKind.TheVariants.{Message, Deletion}
 use Rattle.arch_model.specs.Archives.{Entry, Archive, in_epoch, is_message, messages, text_of, with_entry, without_text, without_entries}
 use Rattle.arch_model.specs.Delivery.{last_epoch, new_epoch}
-use Rattle.arch_model.specs.Epochs.{last_commit}
+use Rattle.arch_model.specs.Epochs.{epoch_bytes, last_commit}
 use Rattle.arch_model.specs.Validity.{IsArchive}
 use Rattle.mail_reader.specs.Ids.{own_id}
 use Rattle.mail_reader.specs.Content.{content_id_of}
@@ -244,30 +244,76 @@ pub record IsTakenToOffset (root : Root) (p : Planning) : Type 0 where
   pub from : ℕ
   pub taken : IsTakenUpTo root epoch from p
 
+-- So far the entries before these were taken, which lie after them in the bytes that the root names.
+pub record IsTakenSo (root : Root) (rest : List StoredEntry) (p : Planning) : Type 0 where
+  pub epoch : ℕ
+  pub from : ℕ
+  pub taken : IsTakenUpTo root epoch from p
+  pub lie : LieFrom epoch from rest
+  pub ends : AllByRecursion (λ (e : StoredEntry). tree_end e.seen ≤ named_length root e.epoch) rest
+
 -- An entry with a blob id was dropped. Another one was kept.
 abbrev pub KeepsBut : Bool → List StoredEntry → StoredEntry → List StoredEntry → Type 0
 KeepsBut true old e new = new ≡ old
 KeepsBut false old e new = (made : StoredEntry) × KeptOf e made × (new ≡ old ++ made ∷ [])
 
--- The current epoch is planned in a form, where these are its entries so far.
-abbrev pub IsCurrent : Form → Texts → Root → List Entry → List ℕ → Option Planned → Type 0
-IsCurrent form texts root es text None = es ≡ []
-IsCurrent form texts root es text (Some c) = (c.file ≡ epoch_file_of root (last_epoch es))
+-- The current epoch is planned in a form, where these are its entries so far, and of them these stay.
+abbrev pub IsCurrent : Form → Texts → Root → List Entry → List Entry → Option Planned → Type 0
+IsCurrent form texts root es kept None = es ≡ []
+IsCurrent form texts root es kept (Some c) = (c.file ≡ epoch_file_of root (last_epoch es))
     × IsPlanned texts (in_files (in_epoch es (last_epoch es)))
-    (in_files (in_epoch (without_text es text) (last_epoch es))) c × (c.form ≡ form)
+    (in_files (in_epoch kept (last_epoch es))) c × (c.form ≡ form)
 
--- Epochs before the current one are planned whole, and none after it.
-pub record IsPlannedUpTo (texts : Texts) (root : Root) (a : Archive) (es : List Entry)
-    (text : List ℕ) (p : Planning) : Type 0 where
-  pub entries : p.entries ≡ stored_after a.config.form [] (without_text es text)
-  pub gone : p.gone ≡ gone_of es text
+-- Of the entries so far these stay, none of them in another epoch. Epochs before the current one are
+-- planned whole, and none after it.
+pub record IsKeptUpTo (texts : Texts) (root : Root) (a : Archive) (es kept : List Entry) (p : Planning)
+    : Type 0 where
+  pub entries : p.entries ≡ stored_after a.config.form [] kept
+  pub among : (e : ℕ) → in_epoch es e ≡ [] → in_epoch kept e ≡ []
   pub before : (e : ℕ) → e < last_epoch es → planned texts (plan_of p.plans kind.Epoch e) (bytes_in a e)
-      ≡ bytes_in (without_entries a text) e
+      ≡ epoch_bytes a.config.form (in_epoch kept e)
   pub after : (e : ℕ) → last_epoch es ≤ e → plan_of p.plans kind.Epoch e ≡ None
   pub map : (n : ℕ) → plan_of p.plans kind.Map n ≡ None
   pub whole : (i : ℕ) (plan : Plan) → slice_get p.plans i ≡ Some plan → IsPlanWhole texts plan
-  pub current : IsCurrent a.config.form texts root es text p.current
+  pub current : IsCurrent a.config.form texts root es kept p.current
   pub form : p.form ≡ a.config.form
+
+-- The entries that stay after one more, which stays, too. Nothing is damaged.
+abbrev pub StaysPlanned : Texts → Root → Archive → List Entry → List Entry → Entry → Planning
+    → Result Unit StoreRefusal → Type 0
+StaysPlanned texts root a es kept e new (Ok _) = IsKeptUpTo texts root a (es ++ e ∷ []) (kept ++ e ∷ []) new
+StaysPlanned texts root a es kept e new (Err (Damaged file at)) = ⊥
+StaysPlanned texts root a es kept e new (Err _) = Unit {0}
+
+-- A file and what is kept of an entry are those of the next entry of an archive on its disk, and of
+-- those before it some stay.
+pub record ComesNext (file : FileName) (stored : StoredEntry) (k : Content) (v : StoreState)
+    (cache : List ℕ) (a : Archive) (es rest kept : List Entry) (e : Entry) (p : Planning) : Type 0 where
+  pub own : IsDiskWith v cache a k
+  pub is : a.entries ≡ es ++ e ∷ rest
+  pub stored_is : stored ≡ stored_at a.config.form es e
+  pub file_is : file ≡ epoch_file_of v.root e.epoch
+  pub up : IsKeptUpTo (texts_in k) v.root a es kept p
+
+-- A planner takes the next entry of the archive of a disk, which stays.
+abbrev pub KeepsStored : Planning → FileName → StoredEntry → Option Content → Planning
+    → Result Unit StoreRefusal → Type 0
+KeepsStored old file stored content new result = WhereTold (λ (k : Content).
+    (v : StoreState) (cache : List ℕ) (a : Archive) (es rest kept : List Entry) (e : Entry)
+    → ComesNext file stored k v cache a es rest kept e old
+    → StaysPlanned (texts_in k) v.root a es kept e new result) content
+
+-- A planner takes the next entry of the archive of a disk, which is left out.
+abbrev pub DropsStored : Planning → FileName → StoredEntry → Planning → Type 0
+DropsStored old file stored new = (k : Content) (v : StoreState) (cache : List ℕ) (a : Archive)
+    (es rest kept : List Entry) (e : Entry) → ComesNext file stored k v cache a es rest kept e old
+    → IsKeptUpTo (texts_in k) v.root a (es ++ e ∷ []) kept new
+
+-- The entries of an archive up to these are planned, where a text is left out: those without it stay,
+-- and the numbers of the messages with it are kept.
+abbrev pub IsPlannedUpTo : Texts → Root → Archive → List Entry → List ℕ → Planning → Type 0
+IsPlannedUpTo texts root a es text p = IsKeptUpTo texts root a es (without_text es text) p
+    × (p.gone ≡ gone_of es text)
 
 -- Of the entries of an archive those with a blob id are those with a text.
 abbrev pub PicksText : Archive → ObjectId → List ℕ → Type 0

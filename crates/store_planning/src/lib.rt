@@ -2,8 +2,10 @@
 //! Reads the disk.
 #![tactic(auto)]
 
+mod mapping;
 mod next;
 mod planning;
 
+pub use mapping::plan_map;
 pub use next::{End, NextPlace};
 pub use planning::Planner;

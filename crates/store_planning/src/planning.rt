@@ -1,13 +1,14 @@
 //! Plans an archive without the entries of a text.
 //! Reads the disk.
-ghost use Rattle.std.specs.Prelude.{◌≡◌, ◌+◌, ◌*◌, ◌≤◌, ◌++◌, [], ◌∷◌, Some, None, Err, IfErr, IfOk, OnOk};
+ghost use Rattle.std.specs.Prelude.{◌≡◌, ◌+◌, ◌-◌, ◌*◌, ◌≤◌, ◌++◌, [], ◌∷◌, true, false, Some, None, Err, IfErr, IfOk, OnOk, length, slice_get};
 ghost use Rattle.arch_base.specs.Counts.{RoseIf};
 ghost use Rattle.arch_base.specs.Ids.{id_eq};
 ghost use Rattle.disk_model.specs.Sizes.{greatest_epoch, record_size};
 ghost use Rattle.root_slots.specs.declared.root.Root.{Root};
 ghost use Rattle.root_slots.specs.Valid.{IsRoot};
+ghost use Rattle.store_finding.specs.declared.entries.StoredEntry.{StoredEntry};
 ghost use Rattle.disk_model.specs.declared.name.FileKind.TheVariants as kind;
-ghost use Rattle.root_change.specs.Rewriting.{IsPlan, Plan, plan_of};
+ghost use Rattle.root_change.specs.Rewriting.{AreApart, IsPlan, Plan, plan_of};
 ghost use Rattle.arch_model.specs.Archives.{Archive};
 ghost use Rattle.arch_model.specs.Validity.{IsArchive};
 ghost use Rattle.epoch_file.specs.Planning.{TellsLack};
@@ -15,9 +16,10 @@ ghost use Rattle.epoch_file.specs.Runs.{OnlyReads};
 ghost use Rattle.store_planning.specs.DamagedTexts.{IfDamaged, IsDamageOf};
 ghost use Rattle.store_finding.specs.Extents.{AreNamedAfter, AreUpToEpoch, LieFrom};
 ghost use Rattle.store_finding.specs.Files.{epoch_file_of, map_file_of};
-ghost use Rattle.store_planning.specs.Planning.{AppendsRecord, AreAnew, AreFrom, PlansApart, ArePlansIn, AreValid, ChangesNext, ClosesEpoch, ClosesLast, FinishesPlans, IsPlanIndex, IsReadyPlan, IsTakenToOffset, KeepsBut, PlansEntry, LeavesOut, OpensPlan, Pushes, RefusesPlanned, PlansNext, PlanTakes, no_planning, plans_with, refusal_in, with_gone};
+ghost use Rattle.store_planning.specs.Planning.{AppendsRecord, AreAnew, AreFrom, PlansApart, ArePlansIn, AreValid, ChangesNext, ClosesEpoch, ClosesLast, DropsStored, FinishesPlans, IsPlanIndex, IsReadyPlan, IsTakenToOffset, KeepsBut, KeepsStored, PlansEntry, LeavesOut, OpensPlan, Pushes, RefusesPlanned, PlansNext, PlanTakes, gone_with, no_planning, plans_with, refusal_in, with_gone};
 ghost use Rattle.store_finding.specs.Kept.{InEpochs, stored_after};
-ghost use Rattle.store_planning.specs.Dropping.{IsStoreEnd};
+ghost use Rattle.store_planning.specs.Dropping.{IsStoreEnd, KeptOf};
+ghost use Rattle.store_planning.specs.Epochs.{IsParentIn, commit_if};
 
 use crate::next::End;
 use arch_base::{Form, MessageNumbers, NoMemory, ObjectId};
@@ -121,11 +123,62 @@ impl Planner {
         ensures cause { RoseIf (result ≡ Err StoreRefusal.DiskFault) (D.faults disk.old)
             (D.faults disk.new) }
     {
-        let plan = self.open(file)?;
         if *blob == entry.seen.blob {
-            self.leave_out(plan, entry)?;
+            self.drop_entry(file, entry)?;
             return Ok(());
         }
+        self.keep_entry(disk, file, entry)
+    }
+
+    /// Takes the next entry, which is left out. `file` is that of its epoch.
+    ///
+    /// The plan is of no more use after `NoMemory`.
+    pub fn drop_entry(&mut self, file: FileName, entry: &StoredEntry) -> Result<(), NoMemory>
+        requires epoch { entry.now.epoch ≤ greatest_epoch }
+        requires apart { PlansApart self.old.plans self.old.current }
+        ensures dropped { OnOk result (DropsStored self.old file entry.now self.new) }
+        // Whatever the disk holds.
+        ensures same { OnOk result (self.new.entries ≡ self.old.entries) }
+        ensures gone { OnOk result (self.new.gone
+            ≡ gone_with entry.now.seen.kind self.old.gone entry.now.number) }
+        ensures plans { (root : Root) → file ≡ epoch_file_of root entry.now.epoch
+            → ArePlansIn root self.old → OnOk result (ArePlansIn root self.new) }
+        ensures changes { OnOk result (ChangesNext self.old file.number true self.new) }
+        ensures lies { OnOk result (PlanTakes self.old file entry.now self.new) }
+    {
+        let plan = self.open(file)?;
+        self.leave_out(plan, entry)
+    }
+
+    /// Takes the next entry, which stays. `file` is that of its epoch.
+    ///
+    /// Reads the text of an entry that gets another commit. `Damaged`, at the offset of the entry, if it
+    /// has another blob id. The plan is of no more use after an error.
+    pub fn keep_entry<D: Disk>(
+        &mut self,
+        disk: &mut D,
+        file: FileName,
+        entry: &StoredEntry,
+    ) -> Result<(), StoreRefusal>
+        requires epoch { entry.now.epoch ≤ greatest_epoch }
+        requires apart { PlansApart self.old.plans self.old.current }
+        ensures kept { KeepsStored self.old file entry.now (D.content disk.old) self.new result }
+        ensures damage { IfDamaged result (IsDamageOf self.old.form file entry.now
+            (D.content disk.old)) }
+        // Whatever the disk holds.
+        ensures made { OnOk result ((made : StoredEntry) × KeptOf entry.now made
+            × (self.new.entries ≡ self.old.entries ++ made ∷ [])) }
+        ensures gone { OnOk result (self.new.gone ≡ self.old.gone) }
+        ensures plans { (root : Root) → file ≡ epoch_file_of root entry.now.epoch
+            → ArePlansIn root self.old → OnOk result (ArePlansIn root self.new) }
+        ensures changes { OnOk result (ChangesNext self.old file.number false self.new) }
+        ensures lies { OnOk result (PlanTakes self.old file entry.now self.new) }
+        ensures reads { OnlyReads D.Disk disk.old disk.new }
+        ensures fewest { D.reads disk.old ≤ D.reads disk.new }
+        ensures cause { RoseIf (result ≡ Err StoreRefusal.DiskFault) (D.faults disk.old)
+            (D.faults disk.new) }
+    {
+        let plan = self.open(file)?;
         match self.keep(disk, plan, entry) {
             Ok(()) => Ok(()),
             Err(refusal) => Err(damaged_in(file, &refusal)),
@@ -207,7 +260,7 @@ impl Planner {
     }
 
     /// Keeps a plan of a part that isn't planned yet.
-    fn push(&mut self, plan: PartPlan) -> Result<(), NoMemory>
+    pub fn push(&mut self, plan: PartPlan) -> Result<(), NoMemory>
         requires valid { IsPlan plan }
         requires apart { plan_of self.old.plans plan.kind plan.number ≡ None }
         ensures { OnOk result (Pushes self.old plan self.new) }
@@ -249,6 +302,45 @@ impl Planner {
                 parent: Some(entry.seen.commit),
             },
         }
+    }
+
+    /// Returns the commit of the last entry that stays.
+    pub fn last_commit(&self) -> Option<ObjectId>
+        ensures { result ≡ commit_if (slice_get self.now.entries (length self.now.entries - 1)) }
+    {
+        match self.entries.last() {
+            None => None,
+            Some(entry) => Some(entry.seen.commit),
+        }
+    }
+
+    /// Returns the commit after which the next entry of an epoch comes: that of the last entry that stays,
+    /// if it is in the epoch. No later epoch has one.
+    pub fn parent_in(&self, epoch: u32) -> Option<ObjectId>
+        ensures { IsParentIn self.now.entries epoch result }
+    {
+        match self.entries.last() {
+            None => None,
+            Some(entry) => {
+                if entry.epoch == epoch {
+                    Some(entry.seen.commit)
+                } else {
+                    None
+                }
+            }
+        }
+    }
+
+    /// Closes the current epoch, if there is one, after the last entry.
+    pub fn close_epochs(&mut self) -> Result<(), NoMemory>
+        requires { PlansApart self.old.plans self.old.current }
+        ensures closed { OnOk result (ClosesLast self.old self.old.current self.new) }
+        ensures none { OnOk result (self.new.current ≡ None) }
+        ensures apart { OnOk result (AreApart self.new.plans) }
+    {
+        self.close_last()?;
+        let _plans = &self.plans; // brings what holds of them into the proof
+        Ok(())
     }
 
     /// Keeps the number of an entry that is left out, if that is a message.
@@ -362,6 +454,13 @@ impl Planner {
         ensures { result.now ≡ self.now.plans }
     {
         self.plans.as_slice()
+    }
+
+    /// Returns what is kept of the entries that stay, in order.
+    pub fn entries(&self) -> &[StoredEntry]
+        ensures { result.now ≡ self.now.entries }
+    {
+        self.entries.as_slice()
     }
 
     /// Returns what is kept of the entries that stay.

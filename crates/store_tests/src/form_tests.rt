@@ -44,8 +44,8 @@ static FILES: [Length; 3] = [
     },
 ];
 
-/// Returns the settings of an archive of SHA-256 objects.
-fn settings() -> Option<Config>
+/// Returns the settings of an archive of a form.
+pub(crate) fn settings(form: Form, mirror: bool) -> Option<Config>
     ensures { IfSome result IsConfig }
 {
     let name = Name::read(b"list")?;
@@ -54,25 +54,27 @@ fn settings() -> Option<Config>
         limit: 2000,
         slice: 50000,
         max: 10,
-        mirror: false,
+        mirror,
         born: 1,
-        form: Form::Sha256,
+        form,
     })
 }
 
-/// Makes an archive of SHA-256 objects.
-fn make<D: Disk>(alloc: Global, disk: &mut D) -> Result<Store, StoreRefusal>
+/// Makes an archive of a form.
+fn make<D: Disk>(alloc: Global, disk: &mut D, form: Form) -> Result<Store, StoreRefusal>
     ensures sizes { IfOk result (λ store. WhereTold (StoreHasSizes store) (D.content disk.new)) }
 {
-    match settings() {
+    match settings(form, false) {
         Some(config) => make_by(alloc, disk, &config),
         None => Err(StoreRefusal::Damaged { file: ROOT, at: 1 }),
     }
 }
 
 /// Makes such an archive, appends both messages to it, and removes the first one.
-fn fill<D: Disk>(alloc: Global, disk: &mut D) -> Result<Store, StoreRefusal> {
-    let mut store = make(alloc, disk)?;
+pub(crate) fn fill<D: Disk>(alloc: Global, disk: &mut D, form: Form) -> Result<Store, StoreRefusal>
+    ensures sizes { IfOk result (λ store. WhereTold (StoreHasSizes store) (D.content disk.new)) }
+{
+    let mut store = make(alloc, disk, form)?;
     put(alloc, disk, &mut store, FIRST)?;
     put(alloc, disk, &mut store, SECOND)?;
     remove_first(alloc, disk, &mut store)?;
@@ -89,7 +91,7 @@ fn has_commit(store: &Store, index: u64, commit: &[u8]) -> bool {
 
 /// Returns whether an archive is of SHA-256 objects, and its entries are those of both messages and of
 /// the removal.
-fn has_entries(store: &Store) -> bool {
+pub(crate) fn has_entries(store: &Store) -> bool {
     let Some(line) = store.entry(0) else {
         return false;
     };
@@ -102,13 +104,17 @@ fn has_entries(store: &Store) -> bool {
 /// Returns the disk of an archive that has these entries and files, or `None`.
 fn filled(alloc: Global) -> Result<Option<MemDisk>, Fail> {
     let mut disk = empty_disk(alloc);
-    let store = fill(alloc, &mut disk)?;
+    let store = fill(alloc, &mut disk, Form::Sha256)?;
     let same = has_entries(&store) && have_lengths(&mut disk, &FILES)?;
     Ok(same.then_some(disk))
 }
 
 /// Opens an archive, and returns whether its first text is read.
-fn reads_first(rt: &impl Abort, alloc: Global, disk: &mut MemDisk) -> Result<bool, Fail> {
+pub(crate) fn reads_first(
+    rt: &impl Abort,
+    alloc: Global,
+    disk: &mut MemDisk,
+) -> Result<bool, Fail> {
     let (store, _index) = Store::open(alloc, disk)?;
     assert!(rt; has_entries(&store));
     let text = text_of(alloc, disk, &store, 0)?;

@@ -2,6 +2,10 @@
 #![tactic(auto)]
 
 #[cfg(test)]
+mod adopt_tests;
+#[cfg(test)]
+mod convert_tests;
+#[cfg(test)]
 mod damage_tests;
 #[cfg(test)]
 mod epoch_reading_tests;

@@ -22,12 +22,12 @@ pub(crate) const ENOUGH: u64 = 1000;
 /// What is asked of an archive: the number of the next message, and each entry.
 #[derive(PartialEq, Eq, Drop)]
 pub(crate) struct Listing {
-    next: u32,
-    entries: Vec<EntryLine>,
+    pub(crate) next: u32,
+    pub(crate) entries: Vec<EntryLine>,
 }
 
 /// Returns what an archive has.
-fn listed(alloc: Global, store: &Store) -> Result<Listing, NoMemory> {
+pub(crate) fn listed(alloc: Global, store: &Store) -> Result<Listing, NoMemory> {
     let mut entries = Vec::new(alloc);
     for index in 0..store.stored().len() {
         if let Some(line) = store.entry(index as u64) {
@@ -141,6 +141,21 @@ pub(crate) struct Change {
 }
 
 impl Change {
+    /// Returns the call before which, and after which, the archive has this.
+    pub(crate) fn of(before: Listing, after: Listing) -> Change {
+        Change {
+            before: Some(before),
+            after: Some(after),
+            found_before: false,
+            found_after: false,
+        }
+    }
+
+    /// Returns whether both were found after stops.
+    pub(crate) fn found_both(&self) -> bool {
+        self.found_before && self.found_after
+    }
+
     /// Returns the call before which, and after which, the archive has this many of the four calls.
     pub(crate) fn crash_between(
         alloc: Global,
@@ -223,6 +238,22 @@ pub(crate) fn open_since(
     Ok(())
 }
 
+/// Opens each image that a crash now may leave after a call that was stopped. If it is done, opens each
+/// since it began.
+///
+/// A change of the disk is one call of it, so each moment of the call is the last one of some stop.
+pub(crate) fn open_stopped(
+    rt: &impl Abort,
+    alloc: Global,
+    disk: &MemDisk,
+    start: u64,
+    change: &mut Change,
+    done: bool,
+) -> Result<(), Fail> {
+    let first = if done { start } else { disk.moments() };
+    open_since(rt, alloc, disk, first, change, done)
+}
+
 /// A disk after a call that was stopped: how many changes it had before the call, and what the call
 /// answered.
 #[derive(Drop)]
@@ -249,8 +280,8 @@ fn stop(alloc: Global, limit: u64, calls: u64, passes: u64) -> Result<Stopped, S
     })
 }
 
-/// Stops the call that follows this many others after this many calls of the disk, and opens each
-/// image since it began. Returns whether there was no stop.
+/// Stops the call that follows this many others after this many calls of the disk, and opens what is
+/// left. Returns whether there was no stop.
 fn stop_after(
     rt: &impl Abort,
     alloc: Global,
@@ -265,7 +296,7 @@ fn stop_after(
     let stopped = stop(alloc, limit, calls, passes)?;
     let done = stopped.answer.is_ok();
     assert!(rt; done || stopped.answer == Err(StoreRefusal::DiskFault));
-    open_since(rt, alloc, &stopped.disk, stopped.start, change, done)?;
+    open_stopped(rt, alloc, &stopped.disk, stopped.start, change, done)?;
     Ok(done)
 }
 
@@ -284,7 +315,7 @@ fn stop_each(
     assert!(rt; change.before != change.after);
     for passes in 0..ENOUGH {
         if stop_after(rt, alloc, limit, calls, passes, change)? {
-            assert!(rt; change.found_before && change.found_after && passes > 0);
+            assert!(rt; change.found_both() && passes > 0);
             return Ok(());
         }
     }

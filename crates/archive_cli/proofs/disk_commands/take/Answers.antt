@@ -1,5 +1,6 @@
 use Rattle.std.proofs.Common.{Err}
 use Rattle.archive_core.specs.Commands.{FilesFor, way_of}
+use Rattle.epoch_store.specs.Promises.{GoesOnBy}
 use Rattle.archive_cli.specs.DiskCommands.{taking}
 use Rattle.root_slots.proofs.OneRoots.{none_begins}
 use Rattle.archive_cli.proofs.OnDisk.{unopened-takes, unopened-stands, taken-stands, taken-runs, unopened-runs, answered-cause, refused-cause}
@@ -41,7 +42,7 @@ returns-in-Ok-clause-files g c =
 pub returns-in-Ok-clause-commits : goal.returns-in-Ok-clause-commits
 returns-in-Ok-clause-commits g c =
     let opened = c.in-Ok.ensures.opened in
-    opened-commits (way_of c.args.command.now) (FilesFor c.args.command.now) c.in-Ok.archive (g.D.Disk.content c.args.disk) (g.D.Disk.content c.open.new.disk) (g.D.Disk.content c.answered-answer.new.disk) c.answered-answer.result opened.answer opened.kept c.answered-answer.ensures.commits
+    opened-commits (GoesOnBy (way_of c.args.command.now)) (FilesFor c.args.command.now) c.in-Ok.archive (g.D.Disk.content c.args.disk) (g.D.Disk.content c.open.new.disk) (g.D.Disk.content c.answered-answer.new.disk) c.answered-answer.result opened.answer opened.kept c.answered-answer.ensures.commits
 
 pub returns-in-Ok-clause-crash_root : goal.returns-in-Ok-clause-crash_root
 returns-in-Ok-clause-crash_root g c =

@@ -7,13 +7,13 @@ use Rattle.archive_cli.specs.DiskCommands.{removing, purging}
 use Rattle.archive_cli.specs.Program.{CommandActs, InitActs, any_files, purge_files}
 use Rattle.archive_cli.specs.Serving.{hosted}
 use Rattle.archive_cli.specs.Words.{spelled}
-use Rattle.archive_cli.specs.declared.words.Job.TheVariants.{Help, Version, Replay, Load, Init, Deliver, Remove, Purge, Edit, Reindex, Check, Serve}
+use Rattle.archive_cli.specs.declared.words.Job.TheVariants.{Help, Version, Replay, Load, Init, Deliver, Remove, Purge, Edit, Reindex, Check, Convert, Serve}
 use Rattle.archive_cli.specs.declared.status.Status.TheVariants as exit
 use Rattle.archive_cli.specs.declared.texts.TheConstants.{HELP, VERSION}
 use Rattle.root_slots.proofs.OneRoots.{none_begins}
 use Rattle.archive_cli.proofs.Committing.{still-none, still-one}
 use Rattle.archive_cli.proofs.Grammar.{replay-config, init-config, same-serve}
-use Rattle.archive_cli.proofs.Printed.{ran-exactly, ran-replayed, ran-loaded, ran-made, ran-put, ran-command, ran-reindexed, ran-checked, ran-served, job-moved, some-moment}
+use Rattle.archive_cli.proofs.Printed.{ran-exactly, ran-replayed, ran-loaded, ran-made, ran-put, ran-command, ran-reindexed, ran-checked, ran-converted, ran-served, job-moved, some-moment}
 use Rattle.archive_cli.proofs.ServedDisk.{shut-faults}
 use Rattle.archive_cli.proofs.program.run.Goals as goal
 
@@ -77,6 +77,15 @@ returns-in-Some-Check-clause-ends g c =
       c.code-in-Some-Check.ensures,
       ran-checked (spelled c.args.words.now) _ _ _ c.check-outcome.result.0 (rw c.in-Some-Check.field-0-is at c.in-Some-Check.ensures)
           (record { moment = some.0; first = some.1; coming = refl; acts = record { kind = c.check-outcome.ensures.kind; done = c.check-outcome.ensures.done; stands = c.check-outcome.ensures.stands; answer = c.check-outcome.ensures.answer; files = c.check-outcome.ensures.files }; fault = c.check-outcome.ensures.cause.failed; input_kept = refl; clock_kept = refl; disk_kept = c.check-outcome.ensures.cause.kept }) c.print_outcome-in-Some-Check.ensures.printed,
+    )
+
+pub returns-in-Some-Convert-clause-ends : goal.returns-in-Some-Convert-clause-ends
+returns-in-Some-Convert-clause-ends g c =
+    let some = some-moment (g.C.Clock.coming c.args.clock.now) in (
+      c.print_outcome-in-Some-Convert.result,
+      c.code-in-Some-Convert.ensures,
+      ran-converted (spelled c.args.words.now) _ _ _ c.convert-outcome.result.0 (rw c.in-Some-Convert.field-0-is at c.in-Some-Convert.ensures)
+          (record { moment = some.0; first = some.1; coming = refl; acts = record { kind = c.convert-outcome.ensures.kind; done = c.convert-outcome.ensures.done; stands = c.convert-outcome.ensures.stands; answer = c.convert-outcome.ensures.answer; files = c.convert-outcome.ensures.files; commits = c.convert-outcome.ensures.commits }; fault = c.convert-outcome.ensures.cause.failed; input_kept = refl; clock_kept = refl; disk_kept = c.convert-outcome.ensures.cause.kept }) c.print_outcome-in-Some-Convert.ensures.printed,
     )
 
 pub returns-in-Some-Remove-clause-ends : goal.returns-in-Some-Remove-clause-ends
@@ -145,6 +154,9 @@ returns-in-Some-Reindex-clause-crash g c = ((Some Reindex), rw c.in-Some-Reindex
 pub returns-in-Some-Check-clause-crash : goal.returns-in-Some-Check-clause-crash
 returns-in-Some-Check-clause-crash g c = ((Some Check), rw c.in-Some-Check.field-0-is at c.in-Some-Check.ensures, c.check-outcome.ensures.crash)
 
+pub returns-in-Some-Convert-clause-crash : goal.returns-in-Some-Convert-clause-crash
+returns-in-Some-Convert-clause-crash g c = ((Some Convert), rw c.in-Some-Convert.field-0-is at c.in-Some-Convert.ensures, c.convert-outcome.ensures.crash)
+
 pub returns-in-Some-Help-clause-crash : goal.returns-in-Some-Help-clause-crash
 returns-in-Some-Help-clause-crash g c = ((Some Help), rw c.in-Some-Help.field-0-is at c.in-Some-Help.ensures, refl)
 
@@ -182,76 +194,82 @@ pub returns-in-None-clause-crash_root : goal.returns-in-None-clause-crash_root
 returns-in-None-clause-crash_root g c = λ made serves. still-one g.D.Disk g.met.D.Disk.only_now c.args.disk
 
 pub returns-in-None-clause-crash_none : goal.returns-in-None-clause-crash_none
-returns-in-None-clause-crash_none g c = λ commands serves. still-none g.D.Disk g.met.D.Disk.only_now c.args.disk
+returns-in-None-clause-crash_none g c = λ commands converts serves. still-none g.D.Disk g.met.D.Disk.only_now c.args.disk
 
 pub returns-in-Some-Help-clause-crash_root : goal.returns-in-Some-Help-clause-crash_root
 returns-in-Some-Help-clause-crash_root g c = λ made serves. still-one g.D.Disk g.met.D.Disk.only_now c.args.disk
 
 pub returns-in-Some-Help-clause-crash_none : goal.returns-in-Some-Help-clause-crash_none
-returns-in-Some-Help-clause-crash_none g c = λ commands serves. still-none g.D.Disk g.met.D.Disk.only_now c.args.disk
+returns-in-Some-Help-clause-crash_none g c = λ commands converts serves. still-none g.D.Disk g.met.D.Disk.only_now c.args.disk
 
 pub returns-in-Some-Version-clause-crash_root : goal.returns-in-Some-Version-clause-crash_root
 returns-in-Some-Version-clause-crash_root g c = λ made serves. still-one g.D.Disk g.met.D.Disk.only_now c.args.disk
 
 pub returns-in-Some-Version-clause-crash_none : goal.returns-in-Some-Version-clause-crash_none
-returns-in-Some-Version-clause-crash_none g c = λ commands serves. still-none g.D.Disk g.met.D.Disk.only_now c.args.disk
+returns-in-Some-Version-clause-crash_none g c = λ commands converts serves. still-none g.D.Disk g.met.D.Disk.only_now c.args.disk
 
 pub returns-in-Some-Replay-clause-crash_root : goal.returns-in-Some-Replay-clause-crash_root
 returns-in-Some-Replay-clause-crash_root g c = λ made serves. still-one g.D.Disk g.met.D.Disk.only_now c.args.disk
 
 pub returns-in-Some-Replay-clause-crash_none : goal.returns-in-Some-Replay-clause-crash_none
-returns-in-Some-Replay-clause-crash_none g c = λ commands serves. still-none g.D.Disk g.met.D.Disk.only_now c.args.disk
+returns-in-Some-Replay-clause-crash_none g c = λ commands converts serves. still-none g.D.Disk g.met.D.Disk.only_now c.args.disk
 
 pub returns-in-Some-Load-clause-crash_root : goal.returns-in-Some-Load-clause-crash_root
 returns-in-Some-Load-clause-crash_root g c = λ made serves. still-one g.D.Disk g.met.D.Disk.only_now c.args.disk
 
 pub returns-in-Some-Load-clause-crash_none : goal.returns-in-Some-Load-clause-crash_none
-returns-in-Some-Load-clause-crash_none g c = λ commands serves. still-none g.D.Disk g.met.D.Disk.only_now c.args.disk
+returns-in-Some-Load-clause-crash_none g c = λ commands converts serves. still-none g.D.Disk g.met.D.Disk.only_now c.args.disk
 
 pub returns-in-Some-Reindex-clause-crash_root : goal.returns-in-Some-Reindex-clause-crash_root
 returns-in-Some-Reindex-clause-crash_root g c = λ made serves. none_begins g.D.Disk c.args.disk _ c.reindex-outcome.ensures.crash_root
 
 pub returns-in-Some-Reindex-clause-crash_none : goal.returns-in-Some-Reindex-clause-crash_none
-returns-in-Some-Reindex-clause-crash_none g c = λ commands serves. c.reindex-outcome.ensures.crash_root
+returns-in-Some-Reindex-clause-crash_none g c = λ commands converts serves. c.reindex-outcome.ensures.crash_root
 
 pub returns-in-Some-Check-clause-crash_root : goal.returns-in-Some-Check-clause-crash_root
 returns-in-Some-Check-clause-crash_root g c = λ made serves. none_begins g.D.Disk c.args.disk _ c.check-outcome.ensures.crash_root
 
 pub returns-in-Some-Check-clause-crash_none : goal.returns-in-Some-Check-clause-crash_none
-returns-in-Some-Check-clause-crash_none g c = λ commands serves. c.check-outcome.ensures.crash_root
+returns-in-Some-Check-clause-crash_none g c = λ commands converts serves. c.check-outcome.ensures.crash_root
+
+pub returns-in-Some-Convert-clause-crash_root : goal.returns-in-Some-Convert-clause-crash_root
+returns-in-Some-Convert-clause-crash_root g c = λ made serves. c.convert-outcome.ensures.crash_root
+
+pub returns-in-Some-Convert-clause-crash_none : goal.returns-in-Some-Convert-clause-crash_none
+returns-in-Some-Convert-clause-crash_none g c = λ commands converts serves. absurd (converts (rw c.in-Some-Convert.field-0-is at c.in-Some-Convert.ensures))
 
 pub returns-in-Some-Deliver-clause-crash_root : goal.returns-in-Some-Deliver-clause-crash_root
 returns-in-Some-Deliver-clause-crash_root g c = λ made serves. c.put_input-status.ensures.crash_root
 
 pub returns-in-Some-Deliver-clause-crash_none : goal.returns-in-Some-Deliver-clause-crash_none
-returns-in-Some-Deliver-clause-crash_none g c = λ commands serves. absurd (commands (inr (inl (inl (rw c.in-Some-Deliver.field-0-is at c.in-Some-Deliver.ensures)))))
+returns-in-Some-Deliver-clause-crash_none g c = λ commands converts serves. absurd (commands (inr (inl (inl (rw c.in-Some-Deliver.field-0-is at c.in-Some-Deliver.ensures)))))
 
 pub returns-in-Some-Remove-clause-crash_root : goal.returns-in-Some-Remove-clause-crash_root
 returns-in-Some-Remove-clause-crash_root g c = λ made serves. c.carry_out-status.ensures.crash_root
 
 pub returns-in-Some-Remove-clause-crash_none : goal.returns-in-Some-Remove-clause-crash_none
-returns-in-Some-Remove-clause-crash_none g c = λ commands serves. absurd (commands (inr (inr (inl (c.in-Some-Remove.number, rw c.in-Some-Remove.field-0-is at c.in-Some-Remove.ensures)))))
+returns-in-Some-Remove-clause-crash_none g c = λ commands converts serves. absurd (commands (inr (inr (inl (c.in-Some-Remove.number, rw c.in-Some-Remove.field-0-is at c.in-Some-Remove.ensures)))))
 
 pub returns-in-Some-Purge-clause-crash_root : goal.returns-in-Some-Purge-clause-crash_root
 returns-in-Some-Purge-clause-crash_root g c = λ made serves. c.carry_out-status-in-Some-Purge.ensures.crash_root
 
 pub returns-in-Some-Purge-clause-crash_none : goal.returns-in-Some-Purge-clause-crash_none
-returns-in-Some-Purge-clause-crash_none g c = λ commands serves. absurd (commands (inr (inr (inr (c.in-Some-Purge.number, rw c.in-Some-Purge.field-0-is at c.in-Some-Purge.ensures)))))
+returns-in-Some-Purge-clause-crash_none g c = λ commands converts serves. absurd (commands (inr (inr (inr (c.in-Some-Purge.number, rw c.in-Some-Purge.field-0-is at c.in-Some-Purge.ensures)))))
 
 pub returns-in-Some-Edit-clause-crash_root : goal.returns-in-Some-Edit-clause-crash_root
 returns-in-Some-Edit-clause-crash_root g c = λ made serves. c.put_input-status-in-Some-Edit.ensures.crash_root
 
 pub returns-in-Some-Edit-clause-crash_none : goal.returns-in-Some-Edit-clause-crash_none
-returns-in-Some-Edit-clause-crash_none g c = λ commands serves. absurd (commands (inr (inl (inr (c.in-Some-Edit.number, rw c.in-Some-Edit.field-0-is at c.in-Some-Edit.ensures)))))
+returns-in-Some-Edit-clause-crash_none g c = λ commands converts serves. absurd (commands (inr (inl (inr (c.in-Some-Edit.number, rw c.in-Some-Edit.field-0-is at c.in-Some-Edit.ensures)))))
 
 pub returns-in-Some-Init-clause-crash_root : goal.returns-in-Some-Init-clause-crash_root
 returns-in-Some-Init-clause-crash_root g c = λ made serves. absurd (made (c.in-Some-Init.config, rw c.in-Some-Init.field-0-is at c.in-Some-Init.ensures))
 
 pub returns-in-Some-Init-clause-crash_none : goal.returns-in-Some-Init-clause-crash_none
-returns-in-Some-Init-clause-crash_none g c = λ commands serves. absurd (commands (inl (c.in-Some-Init.config, rw c.in-Some-Init.field-0-is at c.in-Some-Init.ensures)))
+returns-in-Some-Init-clause-crash_none g c = λ commands converts serves. absurd (commands (inl (c.in-Some-Init.config, rw c.in-Some-Init.field-0-is at c.in-Some-Init.ensures)))
 
 pub returns-in-Some-Serve-clause-crash_root : goal.returns-in-Some-Serve-clause-crash_root
 returns-in-Some-Serve-clause-crash_root g c = λ made serves. absurd (serves c.in-Some-Serve.turns c.in-Some-Serve._port (rw c.in-Some-Serve.field-0-is at c.in-Some-Serve.ensures))
 
 pub returns-in-Some-Serve-clause-crash_none : goal.returns-in-Some-Serve-clause-crash_none
-returns-in-Some-Serve-clause-crash_none g c = λ commands serves. absurd (serves c.in-Some-Serve.turns c.in-Some-Serve._port (rw c.in-Some-Serve.field-0-is at c.in-Some-Serve.ensures))
+returns-in-Some-Serve-clause-crash_none g c = λ commands converts serves. absurd (serves c.in-Some-Serve.turns c.in-Some-Serve._port (rw c.in-Some-Serve.field-0-is at c.in-Some-Serve.ensures))

@@ -3,9 +3,8 @@ use Rattle.std.specs.Prelude.{◌≡◌, ◌≤◌, ℕ, take, drop}
 use Rattle.std.specs.List.{AllZip}
 use Rattle.disk_model.specs.Disk.{WhereTold}
 use Rattle.epoch_file.specs.Runs.{OnlyReads}
-use Rattle.store_planning.specs.Planning.{ArePlansIn, PlansFirst, is_anew, loses}
+use Rattle.store_planning.specs.Planning.{ArePlansIn, IsTakenSo, PlansFirst, is_anew, loses}
 use Rattle.store_planning.specs.Dropping.{KeptOf, without_blob}
-use Rattle.store_planning.proofs.Taken.{IsTakenSo}
 use Rattle.epoch_store.proofs.store.Store.plan_entries.Given as goal
 
 abbrev pub invariant-loop-entry : goal.invariant-loop-entry

@@ -1,0 +1,4 @@
+pub mod Converting
+pub mod Collisions
+pub mod Laws
+pub mod ConvertSteps

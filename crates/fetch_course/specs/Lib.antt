@@ -1,0 +1,5 @@
+pub mod Peering
+pub mod Courses
+pub mod Laws
+pub mod Asking
+pub mod Numbers

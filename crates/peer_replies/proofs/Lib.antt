@@ -1,0 +1,5 @@
+pub mod FrontLaws
+pub mod Heads
+pub mod Lengths
+pub mod Hosts
+pub mod RequestHeads
