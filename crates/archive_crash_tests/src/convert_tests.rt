@@ -6,8 +6,8 @@ ghost use Rattle.epoch_store.specs.Commands.{StoreHasSizes};
 use crate::course::{is_answered, made};
 use crate::course_tests::DELIVERIES;
 use arch_base::Form;
-use arch_model::{OpenRefusal, Shelf};
-use archive_core::DiskArchive;
+use arch_model::{Keep, OpenRefusal, Shelf};
+use archive_core::{DiskArchive, Engine};
 use archive_fixtures::{on_disk, opened, text_is};
 use disk_model::{Disk, DiskFault, FuseDisk, MemDisk};
 use epoch_store::ConvertRefusal;
@@ -40,14 +40,25 @@ fn stop(alloc: Global, passes: u64) -> Result<(MemDisk, Result<(), ConvertRefusa
     Ok((fuse.into_inner(), result))
 }
 
+/// Returns the form of an archive's ids, or `None` if it has to be opened again.
+fn form_of(engine: &Engine<MemDisk>) -> Option<Form> {
+    if engine.is_stale() {
+        return None;
+    }
+    Some(engine.config().form)
+}
+
 /// Returns the form of the archive on a disk, or `None` if it hasn't the two messages.
 fn form_on(alloc: Global, disk: MemDisk) -> Result<Option<Form>, Fail> {
     let mut engine = opened(alloc, disk)?;
     let first = text_is(alloc, &mut engine, 1, FIRST)?;
     let second = text_is(alloc, &mut engine, 2, SECOND)?;
     let counted = engine.entry_count() == 2 && engine.next_of_root() == 3;
-    let form = engine.config().form;
-    Ok((first && second && counted).then_some(form))
+    if first && second && counted {
+        Ok(form_of(&engine))
+    } else {
+        Ok(None)
+    }
 }
 
 /// Which archives images of a disk have.
