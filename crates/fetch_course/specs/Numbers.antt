@@ -31,3 +31,12 @@ abbrev pub renamed_at : Option ObjectId → ℕ → EntryLine → Option FetchAn
 renamed_at None next line = if nat_lt line.number next then Some (answer.Revived line.number) else None
 renamed_at (Some had) next line =
     if id_eq had line.blob then None else Some (answer.Renamed line.number had line.blob)
+
+-- An answer that a list alone decides, if there is one.
+abbrev pub IsOfList : Option FetchAnswer → Type 0
+IsOfList None = Unit {0}
+IsOfList (Some (answer.BadList line)) = Unit {0}
+IsOfList (Some (answer.Renamed number had offered)) = Unit {0}
+IsOfList (Some (answer.Revived number)) = Unit {0}
+IsOfList (Some (answer.Behind had offered)) = Unit {0}
+IsOfList (Some other) = ⊥

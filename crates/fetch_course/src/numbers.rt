@@ -3,7 +3,7 @@
 ghost use Rattle.std.specs.Prelude.{◌≡◌, [], None, OnOk};
 ghost use Rattle.arch_model.specs.Archives.{Archive};
 ghost use Rattle.fetch_course.specs.Courses.{first_renamed, line_renamed, wrong_list as wrong_list_of};
-ghost use Rattle.fetch_course.specs.Numbers.{NamesMessages, named_at, NamesOneMore, renamed_at};
+ghost use Rattle.fetch_course.specs.Numbers.{IsOfList, NamesMessages, named_at, NamesOneMore, renamed_at};
 
 use crate::answer::FetchAnswer;
 use arch_base::{Name, NoMemory, ObjectId};
@@ -59,7 +59,8 @@ impl Numbers {
 
     /// Returns what is wrong with the number of a message of a list, in a mirror with a next number.
     fn number_renamed(&self, line: &EntryLine, next: u32) -> Option<FetchAnswer>
-        ensures { result ≡ renamed_at (named_at self.now.blobs line.now.number) next line.now }
+        ensures value { result ≡ renamed_at (named_at self.now.blobs line.now.number) next line.now }
+        ensures refusal { IsOfList result }
     {
         match self.blob(line.number) {
             Some(had) if had == line.blob => None,
@@ -75,8 +76,9 @@ impl Numbers {
 
     /// Returns the same of a line, which may be that of a deletion.
     fn line_renamed(&self, line: &EntryLine, next: u32) -> Option<FetchAnswer>
-        ensures { (a : Archive) → NamesMessages a self.now.blobs → a.next ≡ next
+        ensures value { (a : Archive) → NamesMessages a self.now.blobs → a.next ≡ next
             → result ≡ line_renamed a line.now }
+        ensures refusal { IsOfList result }
     {
         match line.kind {
             EntryKind::Message => self.number_renamed(line, next),
@@ -86,8 +88,9 @@ impl Numbers {
 
     /// Returns the same of the first line with which something is wrong.
     fn first_renamed(&self, lines: &[EntryLine], next: u32) -> Option<FetchAnswer>
-        ensures { (a : Archive) → NamesMessages a self.now.blobs → a.next ≡ next
+        ensures value { (a : Archive) → NamesMessages a self.now.blobs → a.next ≡ next
             → result ≡ first_renamed a lines.now }
+        ensures refusal { IsOfList result }
     {
         for line in lines {
             if let Some(why) = self.line_renamed(line, next) {
@@ -102,8 +105,9 @@ impl Numbers {
     /// `BadList` if it has another name, `Behind` if its next number is less, and `Renamed` or `Revived` for
     /// the least number of a message that is another one in the mirror, or none any more.
     pub fn wrong_list(&self, name: &Name, next: u32, list: &MirrorList) -> Option<FetchAnswer>
-        ensures { (a : Archive) → NamesMessages a self.now.blobs → a.next ≡ next
+        ensures value { (a : Archive) → NamesMessages a self.now.blobs → a.next ≡ next
             → a.config.name ≡ name.now → result ≡ wrong_list_of a list.now }
+        ensures refusal { IsOfList result }
     {
         if list.name.as_slice() != name.as_slice() {
             return Some(FetchAnswer::BadList(2));

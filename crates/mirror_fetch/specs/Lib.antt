@@ -1,0 +1,4 @@
+pub mod Fetching
+pub mod Own
+pub mod Taking
+pub mod Listing
