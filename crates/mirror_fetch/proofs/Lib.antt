@@ -1,1 +1,5 @@
-
+mod Owns
+mod OwnTexts
+mod Gave
+mod Goes
+mod Took

@@ -1,5 +1,5 @@
 -- Private: what a store has of its own, by blob ids and by numbers, and texts that were asked for.
-use Rattle.std.specs.Prelude.{◌≡◌, ◌≢◌, ◌==◌, ◌&&◌, ℕ, List, [], ◌∷◌, slice_get, Option, Some, None, if◌then◌else◌}
+use Rattle.std.specs.Prelude.{◌≡◌, ◌≢◌, ◌<◌, ◌==◌, ◌&&◌, ℕ, length, List, [], ◌∷◌, slice_get, Option, Some, None, if◌then◌else◌}
 use Rattle.std.specs.List.{AllByRecursion}
 use Rattle.std.specs.BTreeMap.{BTreeMap, get_by}
 use Rattle.arch_base.specs.Ids.{id_cmp, id_eq}
@@ -59,10 +59,16 @@ item_if texts (Some index) = slice_get texts index
 abbrev pub asked_text : Asked → ObjectId → Option (List ℕ)
 asked_text asked blob = item_if asked.texts (place_at asked.places.places blob)
 
+-- Each index is that of a text.
+abbrev pub AskedWithin : Asked → Type 0
+AskedWithin asked = (blob : ObjectId) (index : ℕ) → place_at asked.places.places blob ≡ Some index
+    → index < length asked.texts
+
 -- A text was put under a blob id, and the others are as before.
-abbrev pub PutsAsked : Asked → Asked → ObjectId → List ℕ → Type 0
-PutsAsked old new blob text = (q : ObjectId)
-    → asked_text new q ≡ (if id_eq q blob then Some text else asked_text old q)
+pub record PutsAsked (old new : Asked) (blob : ObjectId) (text : List ℕ) : Type 0 where
+  pub within : AskedWithin new
+  pub texts : (q : ObjectId)
+      → asked_text new q ≡ (if id_eq q blob then Some text else asked_text old q)
 
 -- The disk failed, or memory ran out.
 abbrev pub IsLocal : FetchAnswer → Type 0

@@ -23,7 +23,7 @@ use Rattle.fetch_course.specs.declared.answer.FetchAnswer.TheVariants as answer
 use Rattle.fetch_course.specs.Peering.{PeerGave}
 use Rattle.fetch_course.specs.Courses.{FetchCourse, FetchStage, AsksOn, ComesTo, HoldsAll, after_paths, archive_with, entry_on, known_text, line_course, lines_course, read_course, wrong_text}
 use Rattle.mirror_fetch.specs.Fetching.{DifferIf, ReadsFirst, course_over}
-use Rattle.mirror_fetch.specs.Own.{asked_text}
+use Rattle.mirror_fetch.specs.Own.{AskedWithin, asked_text}
 use Rattle.mirror_fetch.specs.declared.taking.Taking.{Taking}
 use Rattle.mirror_fetch.specs.declared.taking.Planned.{Planned}
 
@@ -44,10 +44,12 @@ abbrev pub wrong_commit : EntryLine → StoredEntry → Option FetchAnswer
 wrong_commit line s =
     if id_eq s.seen.commit line.commit then None else Some (answer.BadCommit line.commit s.seen.commit)
 
--- What is planned is of a store, and the index is that of what is planned.
+-- What is planned is of a store, the index is that of what is planned, and the texts that were asked for
+-- are there.
 pub record IsTakingOf (v : StoreState) (t : Taking) : Type 0 where
   pub of_ : IsAdoptionOf v t.adoption
   pub index : IndexesStored t.adoption.planned.entries t.index
+  pub asked : AskedWithin t.asked
 
 -- One entry more is planned, in the epoch of a line.
 abbrev pub TakesOne : EntryLine → Taking → Taking → Type 0

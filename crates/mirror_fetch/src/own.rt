@@ -2,12 +2,13 @@
 //! Reads the disk.
 ghost use Rattle.std.specs.Prelude.{◌≡◌, ◌≤◌, [], None, Err, IfErr, IfOk, List, OnOk, Option, ℕ};
 ghost use Rattle.arch_base.specs.Counts.{RoseIf};
+ghost use Rattle.arch_base.specs.declared.ids.ObjectId.{ObjectId as Id};
 ghost use Rattle.arch_model.specs.Archives.{Archive};
 ghost use Rattle.arch_model.specs.Shelves.{blob_text};
 ghost use Rattle.epoch_file.specs.Runs.{OnlyReads};
 ghost use Rattle.store_finding.specs.Kept.{IsStoreWith};
 ghost use Rattle.fetch_course.specs.declared.answer.FetchAnswer.{FetchAnswer as Answer};
-ghost use Rattle.mirror_fetch.specs.Own.{IsLocal, NumbersMore, OwnAre, PutsPlace, PutsAsked, asked_text, place_at};
+ghost use Rattle.mirror_fetch.specs.Own.{AskedWithin, IsLocal, NumbersMore, OwnAre, PutsPlace, PutsAsked, asked_text, place_at};
 
 use arch_base::{Bytes, NoMemory, ObjectId, Texts};
 use arch_model::TextRefusal;
@@ -152,7 +153,8 @@ pub(crate) struct Asked {
 impl Asked {
     /// Returns no texts. Allocates nothing.
     pub(crate) fn new(alloc: Global) -> Asked
-        ensures { (blob : ObjectId) → asked_text result blob ≡ None }
+        ensures within { AskedWithin result }
+        ensures none { (blob : Id) → asked_text result blob ≡ None }
     {
         Asked {
             places: Places::new(alloc),
@@ -179,7 +181,7 @@ impl Asked {
     ///
     /// `NoMemory` if an allocation fails.
     pub(crate) fn put(&mut self, blob: ObjectId, text: Bytes) -> Result<(), NoMemory>
-        ensures { OnOk result (PutsAsked self.old self.new blob text) }
+        ensures { AskedWithin self.old → OnOk result (PutsAsked self.old self.new blob text) }
     {
         let index = self.texts.as_slice().len() as u64;
         self.texts.push(text)?;

@@ -23,7 +23,7 @@ ghost use Rattle.fetch_course.specs.Asking.{AsksText};
 ghost use Rattle.fetch_course.specs.Courses.{entry_on, misfits, wrong_text};
 ghost use Rattle.fetch_course.specs.Peering.{blob_path as blob_path_of};
 ghost use Rattle.mirror_fetch.specs.Fetching.{Fetches, done_by};
-ghost use Rattle.mirror_fetch.specs.Own.{OwnAre, PutsAsked};
+ghost use Rattle.mirror_fetch.specs.Own.{AskedWithin, OwnAre, PutsAsked};
 ghost use Rattle.mirror_fetch.specs.Taking.{AddsText, AnswersAdoption, ChecksAdded, ChecksKept, IsNotOwn, IsOfText, IsTakingOf, IsUnknown, PlannedFetch, StartsTaking, TakesOne, TookLine, TookLines, TookList, TookUnread, answer_by, unless_wrong, wrong_commit};
 
 use crate::listing::{ask_list, is_other};
@@ -266,7 +266,7 @@ impl Taking {
     /// Keeps a text that was asked for, by the blob id of its line.
     fn keep_asked(&mut self, line: &EntryLine, text: Bytes) -> Result<(), FetchAnswer>
         ensures same { (self.new.adoption ≡ self.old.adoption) × (self.new.index ≡ self.old.index) }
-        ensures put { OnOk result (PutsAsked self.old.asked self.new.asked line.now.blob text) }
+        ensures put { AskedWithin self.old.asked → OnOk result (PutsAsked self.old.asked self.new.asked line.now.blob text) }
         ensures refused { OnErr result (result ≡ Err Answer.NoMemory) }
     {
         self.asked.put(line.blob, text)?;
