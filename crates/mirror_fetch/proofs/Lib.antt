@@ -3,3 +3,6 @@ mod OwnTexts
 mod Gave
 mod Goes
 mod Took
+mod LineRuns
+mod Changed
+mod Adopted

@@ -1,5 +1,5 @@
 -- Private: how the lines of a list are taken, one after the other.
-use Rattle.std.specs.Prelude.{◌≡◌, ◌⊎◌, ◌==◌, not, ◌||◌, ◌&&◌, ℕ, Bool, List, [], ◌∷◌, ◌++◌, length, Option, Some, None, is_some, Result, Ok, Err, if◌then◌else◌}
+use Rattle.std.specs.Prelude.{◌≡◌, ◌⊎◌, ◌==◌, not, ◌||◌, ◌&&◌, ℕ, Bool, List, [], ◌∷◌, ◌++◌, length, Option, Some, None, is_some, Result, Ok, Err, IfErr, if◌then◌else◌}
 use Rattle.arch_base.specs.Ids.{id_eq}
 use Rattle.arch_base.specs.declared.ids.Form.{Form}
 use Rattle.arch_base.specs.declared.ids.ObjectId.{ObjectId}
@@ -72,6 +72,11 @@ AddsText v cache a k at es line text new (Ok _) = (wrong_text a.config.form at e
 AddsText v cache a k at es line text new (Err why) =
     (why ≡ answer.NoMemory) ⊎ (wrong_text a.config.form at es line text ≡ Some why)
 
+-- An answer that isn't `Ok`.
+abbrev pub IsRefused : FetchAnswer → Type 0
+IsRefused (answer.Ok changed) = ⊥
+IsRefused other = Unit {0}
+
 -- The answers by the text of a line, and want of memory.
 abbrev pub IsOfText : FetchAnswer → Type 0
 IsOfText (answer.BadList line) = Unit {0}
@@ -139,6 +144,7 @@ pub record TookUnread {P : Type 0} (p : Peer P) (first last : P) (v : StoreState
   pub given : List Reply
   pub put : List (List ℕ)
   pub gave : PeerGave p first last given put
+  pub refused : IfErr result IsRefused
   pub goes : (k : Content) (cache : List ℕ) (a : Archive) (es : List Entry) → IsDiskWith v cache a k
       → TookEntries v cache a k es old → EntriesAreInOrder es
       → Holds a es → GoesLine v cache a k at es line given put new result
@@ -157,6 +163,7 @@ pub record TookLine {P : Type 0} (p : Peer P) (first last : P) (v : StoreState) 
   pub given : List Reply
   pub put : List (List ℕ)
   pub gave : PeerGave p first last given put
+  pub refused : IfErr result IsRefused
   pub goes : WhereTold (λ (k : Content). (cache : List ℕ) (a : Archive) (es : List Entry)
       → IsDiskWith v cache a k → TookEntries v cache a k es old → EntriesAreInOrder es
       → GoesLine v cache a k at es line given put new result) content
@@ -177,6 +184,7 @@ pub record TookLines {P : Type 0} (p : Peer P) (first last : P) (v : StoreState)
   pub given : List Reply
   pub put : List (List ℕ)
   pub gave : PeerGave p first last given put
+  pub refused : IfErr result IsRefused
   pub goes : WhereTold (λ (k : Content). (cache : List ℕ) (a : Archive) → IsDiskWith v cache a k
       → LinesGo v cache a k next lines given put new result) content
 
@@ -194,6 +202,7 @@ pub record TookList {P : Type 0} (p : Peer P) (first last : P) (v : StoreState)
   pub given : List Reply
   pub put : List (List ℕ)
   pub gave : PeerGave p first last given put
+  pub refused : IfErr result IsRefused
   pub goes : WhereTold (λ (k : Content). (cache : List ℕ) (a : Archive) → IsDiskWith v cache a k
       → ListGoes v cache a k list given put result) content
 
@@ -215,6 +224,7 @@ pub record PlannedFetch {P : Type 0} (p : Peer P) (first last : P) (v : StoreSta
   pub put : List (List ℕ)
   pub gave : PeerGave p first last given put
   pub reads : ReadsFirst v.root.config.form given read
+  pub refused : IfErr result IsRefused
   pub goes : WhereTold (λ (k : Content). (cache : List ℕ) (a : Archive) → IsDiskWith v cache a k
       → FetchGoes v cache a k given read put result) content
 
