@@ -6,3 +6,6 @@ mod Took
 mod LineRuns
 mod Changed
 mod Adopted
+mod Listed
+mod TextsTook
+mod KeptLines
