@@ -1,5 +1,5 @@
 -- What `init`, `reindex`, `check`, `convert` and a command on an archive do to a disk, and how they end.
--- `deliver`, `remove`, `purge` and `edit` are such commands.
+-- `deliver`, `remove`, `purge` and `edit` are such commands. What `fetch` does stands in `Fetches`.
 use Rattle.std.specs.Prelude.{◌≡◌, ◌⊎◌, ◌↔◌, ℕ, true, false, List, [], length, Option, Some, None, Result, Ok, Err}
 use Rattle.arch_base.specs.declared.config.Config.{Config}
 use Rattle.arch_base.specs.declared.ids.Form.TheVariants.{Sha256}
@@ -31,11 +31,12 @@ use Rattle.epoch_store.specs.Converting.{CollidesAs, ConvertsAny}
 use Rattle.epoch_store.specs.declared.convert_refusal.ConvertRefusal.{ConvertRefusal}
 use Rattle.epoch_store.specs.declared.convert_refusal.ConvertRefusal.TheVariants as converting
 use Rattle.convert_planning.specs.Converting.{converted}
+use Rattle.fetch_course.specs.declared.answer.FetchAnswer.TheVariants as fetching
 use Rattle.archive_core.specs.Commands.{DoneBy}
 use Rattle.archive_core.specs.Engines.{AllRecoverOrBare}
 use Rattle.archive_cli.specs.Conversions.{MayConvert, RefusesConversion, SettingsRefuse, TakesConversion}
 use Rattle.archive_cli.specs.declared.outcome.Outcome.{Outcome}
-use Rattle.archive_cli.specs.declared.outcome.Outcome.TheVariants.{Made, Exists, Reindexed, Checked, Converted, Unconverted, Answered, Unopened}
+use Rattle.archive_cli.specs.declared.outcome.Outcome.TheVariants.{Made, Exists, Reindexed, Checked, Converted, Unconverted, Fetched, Unfetched, Answered, Unopened}
 
 -- A disk that is told is the own one of an archive with a cache of these bytes: each crash leaves files
 -- that stand for the archive, and the files are exactly those of the archive.
@@ -136,6 +137,8 @@ IsOpenedAs files (Converted entries) = (v : StoreState) × OpensFiles files (Ok 
     × (entries ≡ length v.entries) × MayConvert v.root.config
 IsOpenedAs files (Unconverted why) = (v : StoreState) × OpensFiles files (Ok v)
     × SettingsRefuse v.root.config why
+IsOpenedAs files (Fetched told) = (v : StoreState) × OpensFiles files (Ok v)
+IsOpenedAs files (Unfetched why) = OpensFiles files (Err why)
 IsOpenedAs files (Answered reply) = (v : StoreState) × OpensFiles files (Ok v)
 IsOpenedAs files (Made name) = ⊥
 IsOpenedAs files Exists = ⊥
@@ -208,8 +211,8 @@ ChecksOn s old (Checked entries live next) t = Settles s t × IsReadAs t.archive
 ChecksOn s old (Unopened why) t = StaysUnopened s old why t
 ChecksOn s old other t = ⊥
 
--- A conversion of the archive that was found, which is the one as which the disk read, left it so.
-pub record ConvertedOn (s : LastKnown) (old : Option Content) (Leaves : Archive → LastKnown → Type 0)
+-- The archive that was found, which is the one as which the disk read, was left so.
+pub record LeftOn (s : LastKnown) (old : Option Content) (Leaves : Archive → LastKnown → Type 0)
     (t : LastKnown) : Type 0 where
   pub found : Archive
   pub is_found : IsFound s found
@@ -245,8 +248,8 @@ pub record ConvertsOpened {D : Type 0} (g : Disk D) (found : StoreState) (old ne
 
 -- How `convert` leaves a disk that stood so. A refusal leaves the archive that was found.
 abbrev pub ConvertsOn : LastKnown → Option Content → Outcome → LastKnown → Type 0
-ConvertsOn s old (Converted entries) t = ConvertedOn s old StandsConverted t
-ConvertsOn s old (Unconverted converting.DiskFault) t = ConvertedOn s old StandsInDoubt t
+ConvertsOn s old (Converted entries) t = LeftOn s old StandsConverted t
+ConvertsOn s old (Unconverted converting.DiskFault) t = LeftOn s old StandsInDoubt t
 ConvertsOn s old (Unconverted why) t = Settles s t × IsReadAs t.archive old
 ConvertsOn s old (Unopened why) t = StaysUnopened s old why t
 ConvertsOn s old other t = ⊥
@@ -274,4 +277,5 @@ RunsOrStays g old new leaves =
 -- The outcome tells that the disk failed.
 abbrev pub IsFault : Outcome → Type 0
 IsFault o = (o ≡ Answered answer.DiskFault)
-    ⊎ ((o ≡ Unopened refusal.DiskFault) ⊎ (o ≡ Unconverted converting.DiskFault))
+    ⊎ ((o ≡ Unopened refusal.DiskFault) ⊎ ((o ≡ Unconverted converting.DiskFault)
+    ⊎ ((o ≡ Fetched fetching.DiskFault) ⊎ (o ≡ Unfetched refusal.DiskFault))))

@@ -16,14 +16,14 @@ use Rattle.store_finding.specs.Kept.{StoreState}
 use Rattle.archive_cli.specs.DiskCommands.{delivering, removing, purging, editing}
 use Rattle.archive_cli.specs.Loading.{loaded_line}
 use Rattle.archive_cli.specs.Printing.{IsReplayDue}
-use Rattle.archive_cli.specs.Program.{RunState, RanTo, IsPrinted, OutputFailed, IsSilent, NoneFailed, JobEnds, CommandActs, InitActs, ReindexActs, CheckActs, ConvertActs, ServeEnds, unasked, any_files, purge_files, edit_files, message_of}
+use Rattle.archive_cli.specs.Program.{RunState, RanTo, IsPrinted, OutputFailed, IsSilent, NoneFailed, JobEnds, CommandActs, InitActs, ReindexActs, CheckActs, ConvertActs, FetchEnds, ServeEnds, unasked, any_files, purge_files, edit_files, message_of}
 use Rattle.archive_cli.specs.Statuses.{code_of}
 use Rattle.archive_cli.specs.Words.{IsJob}
 use Rattle.archive_cli.specs.declared.status.Status.{Status}
 use Rattle.archive_cli.specs.declared.status.Status.TheVariants as exit
 use Rattle.archive_cli.specs.declared.texts.TheConstants.{HELP, VERSION}
 use Rattle.archive_cli.specs.declared.words.Job.{Job}
-use Rattle.archive_cli.specs.declared.words.Job.TheVariants.{Help, Version, Replay, Load, Init, Deliver, Remove, Purge, Edit, Reindex, Check, Convert, Serve}
+use Rattle.archive_cli.specs.declared.words.Job.TheVariants.{Help, Version, Replay, Load, Init, Deliver, Remove, Purge, Edit, Reindex, Check, Convert, Fetch, Serve}
 
 -- What is due of a job, by the input, the edges before and after it, the status, and what is printed.
 abbrev pub DueRule : Type 1
@@ -181,6 +181,14 @@ ConvertDue input i j status printed = JobEnds ConvertActs unasked i j status pri
 abbrev pub RanConvert : ℕ → RunState → RunState → Type 0
 RanConvert = JobRan ConvertDue NeverStops
 
+-- What is due of `fetch`, whose words name the peer. The clock isn't asked.
+abbrev pub FetchDue : DueRule
+FetchDue input i j status printed = FetchEnds i j status printed
+
+-- `fetch`.
+abbrev pub RanFetch : ℕ → RunState → RunState → Type 0
+RanFetch = JobRan FetchDue NeverStops
+
 -- What is due of `serve`. What it does to the disk and the host is a clause of its own.
 abbrev pub ServeDue : DueRule
 ServeDue input i j status printed = ServeEnds i j status printed
@@ -204,6 +212,7 @@ RanJob (Some (Edit number)) code i j = RanEdit number code i j
 RanJob (Some Reindex) code i j = RanReindex code i j
 RanJob (Some Check) code i j = RanCheck code i j
 RanJob (Some Convert) code i j = RanConvert code i j
+RanJob (Some (Fetch address)) code i j = RanFetch code i j
 RanJob (Some (Serve turns port)) code i j = RanServe code i j
 
 -- A run of words that ask for a job, or for none, ends in exactly the ways of that job.

@@ -8,6 +8,7 @@ use Rattle.disk_model.specs.Disk.{Files, Content, Image}
 use Rattle.disk_model.specs.Moments.{LeavesOnly}
 use Rattle.edge_io.specs.Coming.{Moments, IsFirstMoment}
 use Rattle.edge_io.specs.Scripts.{Arrival}
+use Rattle.edge_io.specs.declared.peer.Reply.{Reply}
 use Rattle.arch_model.specs.Archives.{Archive, empty_archive, live, text_of}
 use Rattle.arch_model.specs.Delivery.{delivered, removed, purged, edited}
 use Rattle.arch_model.specs.Following.{Follows}
@@ -22,16 +23,19 @@ use Rattle.epoch_store.specs.Opens.{ReadsWith}
 use Rattle.epoch_store.specs.Promises.{Appends, Renews}
 use Rattle.answer_lines.specs.Lines.{whole_line}
 use Rattle.archive_cli.specs.declared.words.Job.{Job}
-use Rattle.archive_cli.specs.declared.words.Job.TheVariants.{Init, Deliver, Remove, Purge, Edit, Reindex, Check, Convert}
+use Rattle.archive_cli.specs.declared.words.Job.TheVariants.{Init, Deliver, Remove, Purge, Edit, Reindex, Check, Convert, Fetch}
 use Rattle.archive_cli.specs.declared.outcome.Outcome.{Outcome}
+use Rattle.archive_cli.specs.declared.outcome.Outcome.TheVariants.{Unfetched, Unopened}
 use Rattle.archive_cli.specs.declared.status.Status.{Status}
 use Rattle.archive_cli.specs.Conversions.{TakesConversion}
 use Rattle.archive_cli.specs.DiskCommands.{TakesTo, ReindexesTo, ChecksTo, ConvertsTo, delivering, removing, purging, editing}
+use Rattle.archive_cli.specs.Fetches.{BecomesOver, FetchesTo}
 use Rattle.archive_cli.specs.Jobs.{DueRule, ShortDue}
-use Rattle.archive_cli.specs.Outcomes.{outcome_line, refusal_line, refusal_status, status_of}
+use Rattle.archive_cli.specs.Peers.{PeerState, PeerGives, AreFirst}
+use Rattle.archive_cli.specs.Outcomes.{outcome_line, status_of}
 use Rattle.archive_cli.specs.Statuses.{code_of}
 use Rattle.archive_cli.specs.Words.{AsksFor, IsJob}
-use Rattle.archive_cli.specs.Program.{RunState, RanTo, RanBy, IsInput, IsOnArchive, AsksForInit, AsksOfArchive, AsksForEdit, AsksForPurge, WordsLeave, message_of, made_at}
+use Rattle.archive_cli.specs.Program.{RunState, RanTo, RanBy, IsInput, IsOnArchive, AsksForInit, AsksOfArchive, AsksForEdit, AsksForFetch, AsksForPurge, WordsLeave, message_of, made_at}
 use Rattle.archive_cli.specs.Turns.{Transcript, plain_transcript}
 
 -- What the plain function prints of a script is a transcript of it: the one in which no allocation
@@ -82,14 +86,24 @@ pub record WithNewIds (words : List (List ℕ)) (old new : Archive) : Type 0 whe
   pub taken : TakesConversion old
   pub is : new ≡ converted Sha256 old
 
--- The archive is the same, as after a reindexing or a check, or what the command or the conversion of the
--- words makes of it. Each live number keeps its text, unless the words ask to remove that number, or for
--- a purge or an edit. No number names a second message.
+-- The words ask for a fetch, and the archive is one that the rules of it make over the first replies to come
+-- of these edges.
+pub record WithSource (words : List (List ℕ)) (i : RunState) (old new : Archive) : Type 0 where
+  pub address : List ℕ
+  pub asked : AsksFor words (Fetch address)
+  pub given : List Reply
+  pub first : AreFirst given i.peer.left
+  pub becomes : BecomesOver given old new
+
+-- The archive is the same, as after a reindexing or a check, or what the command, the conversion or the fetch
+-- of the words makes of it. Each live number keeps its text, unless the words ask to remove that number, or
+-- for a purge, an edit or a fetch. No number names a second message.
 pub record Goes (words : List (List ℕ)) (i : RunState) (old new : Archive) : Type 0 where
   pub from : (new ≡ old) ⊎ (WithMessage words i old new ⊎ (WithRemoval words i old new
-      ⊎ (WithPurge words old new ⊎ (WithEdit words i old new ⊎ WithNewIds words old new))))
+      ⊎ (WithPurge words old new ⊎ (WithEdit words i old new ⊎ (WithNewIds words old new
+      ⊎ WithSource words i old new)))))
   pub texts : (n : ℕ) (text : List ℕ) → (AsksFor words (Remove n) → ⊥)
-      → (AsksForPurge words → ⊥) → (AsksForEdit words → ⊥)
+      → (AsksForPurge words → ⊥) → (AsksForEdit words → ⊥) → (AsksForFetch words → ⊥)
       → text_of (live old.entries) n ≡ Some text → text_of (live new.entries) n ≡ Some text
   pub numbers : Follows old new
 
@@ -108,7 +122,7 @@ pub record IsLeft (first second third : List (List ℕ)) (i k m : RunState) (ima
   pub stands : Recovers image two
 
 -- Three runs on one disk: `init` that ends with status 0, and two jobs on the archive, each `deliver`,
--- `remove`, `purge`, `edit`, `reindex`, `check` or `convert`, however these end. So the first of them
+-- `remove`, `purge`, `edit`, `reindex`, `check`, `convert` or `fetch`, however these end. So the first of them
 -- may be stopped by a fault of the disk, and may have been done or not; then the second one found its
 -- archive, or the one without messages, and each crash after it leaves that one or what the second
 -- one makes of it.
@@ -129,29 +143,37 @@ NoneOrNew config coming image = IsShutFile (image root_name) ⊎ ((born : ℕ)
 abbrev pub LeavesNone : Option Content → Type 0
 LeavesNone content = (image : Files) → Image content image → IsShutFile (image root_name)
 
--- What is due where no slot is open: `no archive`, and then no crash leaves an open slot; or the disk
--- failed, or memory ran out.
-abbrev pub NoneDue : DueRule
-NoneDue input i j status printed = (why : OpenRefusal)
+-- The outcome of a job whose archive could not be opened.
+abbrev pub unopened_by : Job → OpenRefusal → Outcome
+unopened_by (Fetch address) why = Unfetched why
+unopened_by other why = Unopened why
+
+-- What is due of a job where no slot is open: `no archive`, and then no crash leaves an open slot; or the
+-- disk failed, or memory ran out.
+abbrev pub NoneDue : Job → DueRule
+NoneDue job input i j status printed = (why : OpenRefusal)
     × ((file : FileName) (at : ℕ) → why ≡ opening.Damaged file at → ⊥)
-    × (status ≡ refusal_status why) × (printed ≡ whole_line (refusal_line why))
+    × (status ≡ status_of (unopened_by job why)) × (printed ≡ whole_line (outcome_line (unopened_by job why)))
     × (why ≡ opening.NoArchive → LeavesNone j.content)
 
--- How a job ends on the disk of an archive without a byte of a cache.
-abbrev pub EndsOn : Job → List ℕ → ℕ → Archive → Outcome → Option Content → Type 0
-EndsOn Deliver input at a = TakesTo Appends [] a (delivering (message_of input) at a)
-EndsOn (Remove number) input at a = TakesTo Appends [] a (removing number at a)
-EndsOn (Purge number) input at a = TakesTo Renews [] a (purging number at a)
-EndsOn (Edit number) input at a = TakesTo Renews [] a (editing number (message_of input) at a)
-EndsOn Reindex input at a = ReindexesTo [] a
-EndsOn Check input at a = ChecksTo [] a
-EndsOn Convert input at a = ConvertsTo [] a
-EndsOn other input at a = λ o new. ⊥
+-- How a job ends on the disk of an archive without a byte of a cache, by what is told of its peer before and
+-- after.
+abbrev pub EndsOn : Job → List ℕ → ℕ → PeerState → PeerState → Archive → Outcome → Option Content → Type 0
+EndsOn Deliver input at asking asked a = TakesTo Appends [] a (delivering (message_of input) at a)
+EndsOn (Remove number) input at asking asked a = TakesTo Appends [] a (removing number at a)
+EndsOn (Purge number) input at asking asked a = TakesTo Renews [] a (purging number at a)
+EndsOn (Edit number) input at asking asked a = TakesTo Renews [] a (editing number (message_of input) at a)
+EndsOn Reindex input at asking asked a = ReindexesTo [] a
+EndsOn Check input at asking asked a = ChecksTo [] a
+EndsOn Convert input at asking asked a = ConvertsTo [] a
+EndsOn (Fetch address) input at asking asked a = λ o new. (given : List Reply) × (put : List (List ℕ))
+    × PeerGives asking asked given put × FetchesTo given put [] a o new
+EndsOn other input at asking asked a = λ o new. ⊥
 
 -- What is due of the job on such a disk, or that memory ran out for its message.
 abbrev pub DueOn : Job → Archive → DueRule
 DueOn job a input i j status printed = ((o : Outcome) × (at : ℕ) × IsFirstMoment at i.coming
-    × EndsOn job input at a o j.content × (status ≡ status_of o)
+    × EndsOn job input at i.peer j.peer a o j.content × (status ≡ status_of o)
     × (printed ≡ whole_line (outcome_line o))) ⊎ ShortDue input i j status printed
 
 -- A run of which this is due ended, and this is the number of its status.
@@ -162,14 +184,14 @@ module _ {D : Type 0} (g : Disk D) where
   -- A run of words from one disk to another, by the clauses `ends` and `crash` of `run`.
   pub record RanOn (words : List (List ℕ)) (code : ℕ) (i j : RunState) (old new : D) : Type 0 where
     pub ends : RanTo words code i j
-    pub crash : WordsLeave g words old new i.left i.coming
+    pub crash : WordsLeave g words old new i.left i.coming i.peer.left
     pub before : i.content ≡ g.content old
     pub after : j.content ≡ g.content new
 
   -- No archive was found, and each crash since the start of the run leaves none, or the new one.
-  pub record FoundNone (config : Config) (coming : Option Moments) (words : List (List ℕ)) (code : ℕ)
-      (k l : RunState) (from next : D) : Type 0 where
-    pub ended : EndedAsDue NoneDue words code k l
+  pub record FoundNone (config : Config) (coming : Option Moments) (words : List (List ℕ)) (job : Job)
+      (code : ℕ) (k l : RunState) (from next : D) : Type 0 where
+    pub ended : EndedAsDue (NoneDue job) words code k l
     pub crash : LeavesOnly g from next (NoneOrNew config coming)
 
   -- The new archive was found, and the run ended as on its own disk. Each crash since its start leaves
@@ -184,8 +206,8 @@ module _ {D : Type 0} (g : Disk D) where
         × Goes words k (empty_archive (made_at config born)) b × Recovers image b))
 
   -- Two runs on one disk that tells its content, of which each crash left no open slot: `init`, however
-  -- it ends, so also by a fault of the disk that leaves it in doubt; and a command, `reindex`, `check` or
-  -- `convert`. The second one finds no archive where no slot is open as the files read, and otherwise the
+  -- it ends, so also by a fault of the disk that leaves it in doubt; and a command, `reindex`, `check`,
+  -- `convert` or `fetch`. The second one finds no archive where no slot is open as the files read, and otherwise the
   -- one that `init` makes.
   abbrev pub RunAfterInit : Type 0
   RunAfterInit = (first second : List (List ℕ)) (config : Config) (job : Job) (a b : ℕ)
@@ -193,7 +215,7 @@ module _ {D : Type 0} (g : Disk D) where
       → AsksFor first (Init config) → LeavesNone i.content → RanOn first a i j old made
       → j.content ≡ Some c → k.content ≡ Some c
       → AsksFor second job → IsOnArchive job → RanOn second b k l from next
-      → (IsShutFile (c root_name).seen × FoundNone config i.coming second b k l from next)
+      → (IsShutFile (c root_name).seen × FoundNone config i.coming second job b k l from next)
       ⊎ FoundNew config i.coming second job b k l from next
 
 -- Words ask for at most one job, and for one or for none.

@@ -1,3 +1,4 @@
+pub mod Addresses
 pub mod Words
 pub mod Loading
 pub mod Turns
@@ -8,8 +9,11 @@ pub mod Jobs
 pub mod Laws
 pub mod Promises
 pub mod Statuses
+pub mod FetchLines
 pub mod Outcomes
 pub mod Conversions
 pub mod DiskCommands
 pub mod OpenedFiles
+pub mod Peers
+pub mod Fetches
 pub mod Options

@@ -9,13 +9,15 @@ use Rattle.root_slots.specs.Spelling.{spelling}
 use Rattle.store_finding.specs.Files.{as_read}
 use Rattle.epoch_store.specs.Opens.{OpensFiles}
 use Rattle.epoch_store.specs.Converting.{GoesOnConverted}
-use Rattle.epoch_store.specs.Promises.{WriteKind, GoesOnBy}
+use Rattle.epoch_store.specs.Promises.{WriteKind, GoesOnBy, Renews}
 use Rattle.epoch_store.specs.declared.convert_refusal.ConvertRefusal.TheVariants as converting
 use Rattle.store_finding.specs.Kept.{StoreState}
+use Rattle.fetch_course.specs.declared.answer.FetchAnswer.{FetchAnswer}
+use Rattle.fetch_course.specs.declared.answer.FetchAnswer.TheVariants as fetching
 use Rattle.archive_core.specs.Commands.{OnDone, OnRefusal, UnlessFault}
 use Rattle.archive_core.specs.Openings.{LeavesKindly, SettlesOpened}
 use Rattle.archive_cli.specs.declared.outcome.Outcome.{Outcome}
-use Rattle.archive_cli.specs.declared.outcome.Outcome.TheVariants.{Made, Exists, Reindexed, Checked, Converted, Unconverted, Answered, Unopened}
+use Rattle.archive_cli.specs.declared.outcome.Outcome.TheVariants.{Made, Exists, Reindexed, Checked, Converted, Unconverted, Fetched, Unfetched, Answered, Unopened}
 
 -- The files were opened, and no more was done than to settle the disk by their root: but for a copy of
 -- the root in the other slot, if the gate of that is shut, the root file is as it was. All that reads
@@ -42,11 +44,23 @@ CommitsOpened goes_on keeps old new = (found : StoreState)
     × WhereTold (λ k. OpensFiles (as_read k) (Ok found)) old
     × CommitsOne goes_on keeps found old new
 
+-- What holds after a fetch that wrote nothing: after each answer but `Ok` and a fault of the disk.
+abbrev pub UnlessWrites : FetchAnswer → Type 0 → Type 0
+UnlessWrites (fetching.Ok changed) P = Unit {0}
+UnlessWrites fetching.DiskFault P = Unit {0}
+UnlessWrites other P = P
+
+-- What holds after a fetch that may have written: after `Ok` and after a fault of the disk.
+abbrev pub IfWrites : FetchAnswer → Type 0 → Type 0
+IfWrites (fetching.Ok changed) P = P
+IfWrites fetching.DiskFault P = P
+IfWrites other P = Unit {0}
+
 -- What a run leaves that commits no root. What can't be opened is left alone: without an archive, and
 -- with a damaged file, all files are synced and nothing more, also out of memory. Out of memory the
 -- files still read as the same archive. What was opened is settled, and nothing more. Nothing is said
--- of a fault of the disk, of a command that was done, and of an archive that was to be made or was
--- converted.
+-- of a fault of the disk, of a command or a fetch that was done, and of an archive that was to be made or
+-- was converted.
 abbrev pub LeavesFiles : Outcome → Option Content → Option Content → Type 0
 LeavesFiles (Unopened why) old new = LeavesKindly why old new
 LeavesFiles (Reindexed live) old new = OnlySettled old new
@@ -54,6 +68,8 @@ LeavesFiles (Checked entries live next) old new = OnlySettled old new
 LeavesFiles (Unconverted converting.DiskFault) old new = Unit {0}
 LeavesFiles (Unconverted why) old new = OnlySettled old new
 LeavesFiles (Converted entries) old new = Unit {0}
+LeavesFiles (Fetched told) old new = UnlessWrites told (OnlySettled old new)
+LeavesFiles (Unfetched why) old new = LeavesKindly why old new
 LeavesFiles (Answered reply) old new = OnRefusal reply (UnlessFault reply (OnlySettled old new))
 LeavesFiles (Made name) old new = Unit {0}
 LeavesFiles Exists old new = Unit {0}
@@ -71,3 +87,9 @@ abbrev pub CommitsIfConverted : Outcome → Option Content → Option Content �
 CommitsIfConverted (Converted entries) old new =
     CommitsOpened (GoesOnConverted Sha256) (λ found made. Unit {0}) old new
 CommitsIfConverted other old new = Unit {0}
+
+-- A fetch that was done commits one root, which goes on with the files of the list's archive.
+abbrev pub CommitsIfFetched : Outcome → Option Content → Option Content → Type 0
+CommitsIfFetched (Fetched (fetching.Ok changed)) old new =
+    CommitsOpened (GoesOnBy Renews) (λ found made. Unit {0}) old new
+CommitsIfFetched other old new = Unit {0}

@@ -8,8 +8,10 @@ use Rattle.arch_model.specs.declared.opening.OpenRefusal.TheVariants as refusal
 use Rattle.disk_model.specs.declared.name.FileName.{FileName}
 use Rattle.epoch_store.specs.declared.convert_refusal.ConvertRefusal.{ConvertRefusal}
 use Rattle.epoch_store.specs.declared.convert_refusal.ConvertRefusal.TheVariants as converting
+use Rattle.fetch_course.specs.declared.answer.FetchAnswer.TheVariants as fetching
+use Rattle.archive_cli.specs.FetchLines.{fetch_line, fetch_status}
 use Rattle.archive_cli.specs.declared.outcome.Outcome.{Outcome}
-use Rattle.archive_cli.specs.declared.outcome.Outcome.TheVariants.{Made, Exists, Reindexed, Checked, Converted, Unconverted, Answered, Unopened}
+use Rattle.archive_cli.specs.declared.outcome.Outcome.TheVariants.{Made, Exists, Reindexed, Checked, Converted, Unconverted, Fetched, Unfetched, Answered, Unopened}
 use Rattle.archive_cli.specs.declared.status.Status.{Status}
 use Rattle.archive_cli.specs.declared.status.Status.TheVariants as exit
 
@@ -54,6 +56,13 @@ unconverted_line converting.NoMemory = answer_line answer.NoMemory
 unconverted_line (converting.Damaged file at) = damage_line file at
 unconverted_line (converting.Open why) = refusal_line why
 
+-- The line of an archive that could not be opened for a fetch. A fault and want of memory have the lines of
+-- answers to a fetch.
+abbrev pub unfetched_line : OpenRefusal → List ℕ
+unfetched_line refusal.DiskFault = fetch_line fetching.DiskFault
+unfetched_line refusal.NoMemory = fetch_line fetching.NoMemory
+unfetched_line other = refusal_line other
+
 -- The line of how a command ended.
 abbrev pub outcome_line : Outcome → List ℕ
 outcome_line (Made name) = codes "made " ++ name
@@ -62,6 +71,8 @@ outcome_line (Reindexed live) = reindexed_line live
 outcome_line (Checked entries live next) = checked_line entries live next
 outcome_line (Converted entries) = converted_line entries
 outcome_line (Unconverted why) = unconverted_line why
+outcome_line (Fetched told) = fetch_line told
+outcome_line (Unfetched why) = unfetched_line why
 outcome_line (Answered reply) = reply_line reply
 outcome_line (Unopened why) = refusal_line why
 
@@ -105,5 +116,7 @@ status_of (Reindexed live) = exit.Done
 status_of (Checked entries live next) = exit.Done
 status_of (Converted entries) = exit.Done
 status_of (Unconverted why) = conversion_status why
+status_of (Fetched told) = fetch_status told
+status_of (Unfetched why) = refusal_status why
 status_of (Answered reply) = answer_status reply
 status_of (Unopened why) = refusal_status why

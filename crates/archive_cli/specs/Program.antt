@@ -1,11 +1,13 @@
 -- What a run of the program ends with: its status, and all that it prints.
 use Rattle.std.specs.Prelude.{◌≡◌, ◌<◌, ◌≤◌, ◌⊎◌, ◌+◌, ℕ, min, max, List, [], ◌++◌, length, take, codes, decimal, Option, Some, None, MatchOption}
-use Rattle.arch_base.specs.Counts.{Rose}
+use Rattle.arch_base.specs.Counts.{Rose, RoseIf}
 use Rattle.arch_base.specs.declared.config.Config.{Config}
 use Rattle.disk_model.specs.declared.disk.Disk.{Ghosts as Disk}
 use Rattle.disk_model.specs.Disk.{Files, Content, WhereTold}
 use Rattle.disk_model.specs.Moments.{LeavesOnly}
 use Rattle.edge_io.specs.declared.clock.Clock.{Ghosts as Clock}
+use Rattle.edge_io.specs.declared.peer.Peer.{Ghosts as Peer}
+use Rattle.edge_io.specs.declared.peer.Reply.{Reply}
 use Rattle.edge_io.specs.declared.sink.Sink.{Ghosts as Sink}
 use Rattle.edge_io.specs.declared.source.Source.{Ghosts as Source}
 use Rattle.edge_io.specs.Coming.{Moments, IsFirstMoment, after_first}
@@ -28,15 +30,19 @@ use Rattle.archive_core.specs.Commands.{AnswersDelivery, AnswersEdit, AnswersPur
 use Rattle.answer_lines.specs.Lines.{whole_line}
 use Rattle.archive_cli.specs.DiskCommands.{MakesDisk, TakesTo, ReindexesTo, ChecksTo, IsOpenedAs, IsFault, IsReply, IsReindex, IsCheck, IsConversion, StandsAs, CommandTakes, ReindexesOn, ChecksOn, ConvertsOn, ConvertsTo, RunsOrStays, LeavesConverted, LeavesEither, delivering, removing, purging, editing}
 use Rattle.archive_cli.specs.OpenedFiles.{CommitsIfConverted, CommitsIfDone, LeavesFiles}
+use Rattle.archive_cli.specs.Peers.{PeerState, PeerGives, AreFirst, no_peer, peer_state}
+use Rattle.archive_cli.specs.Fetches.{FetchActs, LeavesFetched}
 use Rattle.archive_cli.specs.Loading.{loaded_line}
+use Rattle.fetch_course.specs.declared.answer.FetchAnswer.TheVariants as fetching
 use Rattle.archive_cli.specs.Outcomes.{outcome_line, status_of}
 use Rattle.archive_cli.specs.Statuses.{code_of}
 use Rattle.archive_cli.specs.Words.{IsJob, AsksFor}
 use Rattle.archive_cli.specs.Serving.{ServeRun, Shut, run_status, run_line}
 use Rattle.archive_cli.specs.Turns.{Transcript, TranscriptFront}
 use Rattle.archive_cli.specs.declared.words.Job.{Job}
-use Rattle.archive_cli.specs.declared.words.Job.TheVariants.{Help, Version, Replay, Load, Init, Deliver, Remove, Purge, Edit, Reindex, Check, Convert, Serve}
+use Rattle.archive_cli.specs.declared.words.Job.TheVariants.{Help, Version, Replay, Load, Init, Deliver, Remove, Purge, Edit, Reindex, Check, Convert, Fetch, Serve}
 use Rattle.archive_cli.specs.declared.outcome.Outcome.{Outcome}
+use Rattle.archive_cli.specs.declared.outcome.Outcome.TheVariants.{Fetched}
 use Rattle.archive_cli.specs.declared.status.Status.{Status}
 use Rattle.archive_cli.specs.declared.status.Status.TheVariants as exit
 use Rattle.archive_cli.specs.declared.texts.TheConstants.{HELP, VERSION}
@@ -78,7 +84,7 @@ Replays config input status printed = IsTooLong input status printed
     ⊎ (IsBadScript input status printed ⊎ IsPlayed config input status printed)
 
 -- The remaining input, what the output took, the moments to come, the content of the disk, and the
--- count of faults of each.
+-- count of faults of each; and what is told of the peer.
 pub record RunState : Type 0 where
   pub left : Option (List ℕ)
   pub unread : ℕ
@@ -88,6 +94,7 @@ pub record RunState : Type 0 where
   pub missed : ℕ
   pub content : Option Content
   pub broken : ℕ
+  pub peer : PeerState
 
 -- The edges of a job without a disk.
 abbrev pub edges : Option (List ℕ) → ℕ → Option (List ℕ) → ℕ → RunState
@@ -100,12 +107,13 @@ edges left unread taken lost = record {
   missed = 0;
   content = None;
   broken = 0;
+  peer = no_peer;
 }
 
 -- The edges of a run.
 abbrev pub all_edges : Option (List ℕ) → ℕ → Option (List ℕ) → ℕ → Option Moments → ℕ
-    → Option Content → ℕ → RunState
-all_edges left unread taken lost coming missed content broken =
+    → Option Content → ℕ → PeerState → RunState
+all_edges left unread taken lost coming missed content broken peer =
     record {
       left = left;
       unread = unread;
@@ -115,12 +123,14 @@ all_edges left unread taken lost coming missed content broken =
       missed = missed;
       content = content;
       broken = broken;
+      peer = peer;
     }
 
 -- The edges of a run at these devices.
-abbrev pub edges_of : {S O C D : Type 0} → Source S → Sink O → Clock C → Disk D → S → O → C → D → RunState
-edges_of s o c d input out clock disk = all_edges (s.left input) (s.faults input) (o.taken out) (o.faults out)
-    (c.coming clock) (c.faults clock) (d.content disk) (d.faults disk)
+abbrev pub edges_of : {S O C D P : Type 0} → Source S → Sink O → Clock C → Disk D → Peer P → S → O → C → D
+    → P → RunState
+edges_of s o c d p input out clock disk peer = all_edges (s.left input) (s.faults input) (o.taken out)
+    (o.faults out) (c.coming clock) (c.faults clock) (d.content disk) (d.faults disk) (peer_state p peer)
 
 -- The input, the clock and the disk didn't fail: their counts of faults are as before. The clock
 -- wasn't asked.
@@ -269,6 +279,15 @@ pub record JobEnds (did : ℕ → Option Content → Option Content → Outcome 
   pub status_is : status ≡ status_of outcome
   pub printed_is : printed ≡ whole_line (outcome_line outcome)
 
+-- What `fetch` ends with, by the replies that its peer gave and the paths that were put. The peer's count of
+-- faults rose if it is told that it failed, and otherwise stays. The clock isn't asked.
+pub record FetchEnds (i j : RunState) (status : Status) (printed : List ℕ) : Type 0 where
+  pub given : List Reply
+  pub put : List (List ℕ)
+  pub gave : PeerGives i.peer j.peer given put
+  pub ends : JobEnds (FetchActs given put) unasked i j status printed
+  pub cause : RoseIf (ends.outcome ≡ Fetched fetching.PeerFault) i.peer.faults j.peer.faults
+
 -- What `serve` ends with: its status and what is printed are those of how it ended. The clock and the
 -- input aren't asked, and the disk's count of faults rose if the archive wasn't opened because it
 -- failed.
@@ -308,6 +327,7 @@ RunEnds (Some (Edit number)) input i j status printed =
 RunEnds (Some Reindex) input i j status printed = JobEnds ReindexActs unasked i j status printed
 RunEnds (Some Check) input i j status printed = JobEnds CheckActs unasked i j status printed
 RunEnds (Some Convert) input i j status printed = JobEnds ConvertActs unasked i j status printed
+RunEnds (Some (Fetch address)) input i j status printed = FetchEnds i j status printed
 RunEnds (Some (Serve turns port)) input i j status printed = ServeEnds i j status printed
 
 -- What a run of words on an input ends with, by the rules.
@@ -416,7 +436,11 @@ AsksForPurge words = (number : ℕ) × AsksFor words (Purge number)
 abbrev pub AsksForCommand : List (List ℕ) → Type 0
 AsksForCommand words = AsksForMessage words ⊎ (AsksForRemoval words ⊎ AsksForPurge words)
 
--- A job on the archive that is there: a command, a reindexing, a check or a conversion.
+-- The words ask for a fetch.
+abbrev pub AsksForFetch : List (List ℕ) → Type 0
+AsksForFetch words = (address : List ℕ) × AsksFor words (Fetch address)
+
+-- A job on the archive that is there: a command, a reindexing, a check, a conversion or a fetch.
 abbrev pub IsOnArchive : Job → Type 0
 IsOnArchive Deliver = Unit {0}
 IsOnArchive (Remove number) = Unit {0}
@@ -425,6 +449,7 @@ IsOnArchive (Edit number) = Unit {0}
 IsOnArchive Reindex = Unit {0}
 IsOnArchive Check = Unit {0}
 IsOnArchive Convert = Unit {0}
+IsOnArchive (Fetch address) = Unit {0}
 IsOnArchive other = ⊥
 
 -- The words ask for such a job.
@@ -520,25 +545,30 @@ module _ {D : Type 0} (g : Disk D) where
 
   -- What a job does to the disk, and what a crash leaves at each moment of it. A reindexing and a
   -- check change no archive. A conversion leaves the archive that was found, or it with SHA-256 ids if it
-  -- is one that is converted. Nothing is said of `serve`, which has a clause of its own.
-  abbrev pub JobLeaves : Option Job → D → D → Option (List ℕ) → Option Moments → Type 0
-  JobLeaves (Some (Init config)) old new left coming =
+  -- is one that is converted. A fetch leaves the archive that was found, or what it becomes over the first
+  -- replies to come. Nothing is said of `serve`, which has a clause of its own.
+  abbrev pub JobLeaves : Option Job → D → D → Option (List ℕ) → Option Moments → Option (List Reply)
+      → Type 0
+  JobLeaves (Some (Init config)) old new left coming replies =
       LeavesOnly g old new (InitLeaves config coming (g.content old))
-  JobLeaves (Some Deliver) old new left coming =
+  JobLeaves (Some Deliver) old new left coming replies =
       MessageLeaves old new left coming Appends delivering
-  JobLeaves (Some (Remove number)) old new left coming =
+  JobLeaves (Some (Remove number)) old new left coming replies =
       CommandLeaves old new coming Appends (removing number)
-  JobLeaves (Some (Purge number)) old new left coming =
+  JobLeaves (Some (Purge number)) old new left coming replies =
       CommandLeaves old new coming Renews (purging number)
-  JobLeaves (Some (Edit number)) old new left coming =
+  JobLeaves (Some (Edit number)) old new left coming replies =
       MessageLeaves old new left coming Renews (editing number)
-  JobLeaves (Some Reindex) old new left coming = SyncsAtMost g old new
-  JobLeaves (Some Check) old new left coming = SyncsAtMost g old new
-  JobLeaves (Some Convert) old new left coming = RunsOrStays g old new LeavesConverted
-  JobLeaves (Some (Serve turns port)) old new left coming = Unit {0}
-  JobLeaves other old new left coming = new ≡ old
+  JobLeaves (Some Reindex) old new left coming replies = SyncsAtMost g old new
+  JobLeaves (Some Check) old new left coming replies = SyncsAtMost g old new
+  JobLeaves (Some Convert) old new left coming replies = RunsOrStays g old new LeavesConverted
+  JobLeaves (Some (Fetch address)) old new left coming replies = (given : List Reply)
+      × AreFirst given replies × RunsOrStays g old new (LeavesFetched given)
+  JobLeaves (Some (Serve turns port)) old new left coming replies = Unit {0}
+  JobLeaves other old new left coming replies = new ≡ old
 
   -- The words ask for a job, which does this to the disk.
-  abbrev pub WordsLeave : List (List ℕ) → D → D → Option (List ℕ) → Option Moments → Type 0
-  WordsLeave words old new left coming = (job : Option Job) × IsJob words job
-      × JobLeaves job old new left coming
+  abbrev pub WordsLeave : List (List ℕ) → D → D → Option (List ℕ) → Option Moments → Option (List Reply)
+      → Type 0
+  WordsLeave words old new left coming replies = (job : Option Job) × IsJob words job
+      × JobLeaves job old new left coming replies

@@ -5,6 +5,7 @@ use Rattle.disk_model.specs.declared.disk.Disk.{Ghosts as Disk}
 use Rattle.disk_model.specs.Disk.{Content, WhereTold, BothTold}
 use Rattle.disk_model.specs.Synced.{IsSettled}
 use Rattle.edge_io.specs.Scripts.{Arrival}
+use Rattle.edge_io.specs.declared.peer.Reply.{Reply}
 use Rattle.edge_io.specs.Taken.{plus}
 use Rattle.line_door.specs.Course.{SessionState}
 use Rattle.line_door.specs.Acts.{ConnectionState, Said, Departure, Acts}
@@ -30,6 +31,7 @@ use Rattle.node_serve.specs.Updates.{said_update}
 use Rattle.node_serve.specs.World.{NodeState}
 use Rattle.node_serve.specs.declared.session.Session.{Session}
 use Rattle.archive_cli.specs.DiskCommands.{StandsAs, CommandTakes, ConvertsOn, taking}
+use Rattle.archive_cli.specs.Fetches.{FetchActs, FetchesOn}
 use Rattle.archive_cli.specs.Program.{CommandActs, ConvertActs, ReindexActs}
 use Rattle.archive_cli.specs.Serving.{ServedOn, CrashLeaves}
 use Rattle.archive_cli.specs.declared.outcome.Outcome.{Outcome}
@@ -69,13 +71,13 @@ CommandRan command moment old new o = CommandActs (way_of command) (FilesFor com
     (IsForCommand command) (taking command) moment old new o
 
 module _ {D : Type 0} (g : Disk D) where
-  -- Nothing acknowledged is lost: the next run of a command or of `convert`, after serving ended by
-  -- itself, finds the archive that the last act left, with all that was acknowledged, or the one in doubt
+  -- Nothing acknowledged is lost: the next run of a command, of `convert` or of `fetch`, after serving ended
+  -- by itself, finds the archive that the last act left, with all that was acknowledged, or the one in doubt
   -- there. What a crash leaves is said below.
   abbrev pub NothingIsLost : Type 0
   NothingIsLost = (found : Archive) (old opened new next : D) (arrivals : List Arrival)
       (first : Stage (Owning D)) (stages : List (EventStages (Owning D))) (last : Stage (Owning D))
-      (command : Command) (moment : ℕ) (o : Outcome)
+      (command : Command) (given : List Reply) (put : List (List ℕ)) (moment : ℕ) (o : Outcome)
       → (served : ServedOn g found old opened new arrivals first stages last)
       → (CommandRan command moment (g.content new) (g.content next) o
       → (t : LastKnown) × (cache : List ℕ) × StandsAs cache t (g.content next)
@@ -83,6 +85,9 @@ module _ {D : Type 0} (g : Disk D) where
       × (ConvertActs moment (g.content new) (g.content next) o
       → (t : LastKnown) × (cache : List ℕ) × StandsAs cache t (g.content next)
       × ConvertsOn served.runs.after (g.content new) o t)
+      × (FetchActs given put moment (g.content new) (g.content next) o
+      → (t : LastKnown) × (cache : List ℕ) × StandsAs cache t (g.content next)
+      × FetchesOn given put served.runs.after (g.content new) o t)
 
   -- No number names a second message while an archive is served: not in the archive that was found and
   -- one after an act, nor in those after two acts, where the earlier one is valid, as each is that a

@@ -6,8 +6,9 @@ use Rattle.arch_base.specs.Names.{IsArchiveName}
 use Rattle.arch_base.specs.declared.config.Config.{Config}
 use Rattle.arch_base.specs.declared.ids.Form.{Form}
 use Rattle.arch_base.specs.declared.ids.Form.TheVariants as form
+use Rattle.archive_cli.specs.Addresses.{IsAddress, default_address}
 use Rattle.archive_cli.specs.declared.words.Job.{Job}
-use Rattle.archive_cli.specs.declared.words.Job.TheVariants.{Help, Version, Replay, Load, Init, Deliver, Remove, Purge, Edit, Reindex, Check, Convert, Serve}
+use Rattle.archive_cli.specs.declared.words.Job.TheVariants.{Help, Version, Replay, Load, Init, Deliver, Remove, Purge, Edit, Reindex, Check, Convert, Fetch, Serve}
 use Rattle.archive_cli.specs.declared.words.ServeOption.{ServeOption}
 use Rattle.archive_cli.specs.declared.words.ServeOption.TheVariants as serving
 use Rattle.archive_cli.specs.declared.words.Setting.{Setting}
@@ -192,6 +193,18 @@ pub record IsServe (words : List (List ℕ)) (turns port : ℕ) : Type 0 where
   pub ranges : All IsServeOption options
   pub gives : GivesServing options turns port
 
+-- The options of `fetch`, at most one, give this address of a peer: after `peer=`, or else the default.
+abbrev pub GivesPeer : List (List ℕ) → List ℕ → Type 0
+GivesPeer [] address = address ≡ default_address
+GivesPeer (option ∷ []) address = (option ≡ codes "peer=" ++ address) × IsAddress address
+GivesPeer other address = ⊥
+
+-- The word `fetch`, and then options.
+pub record IsFetching (words : List (List ℕ)) (address : List ℕ) : Type 0 where
+  pub options : List (List ℕ)
+  pub is : words ≡ codes "fetch" ∷ options
+  pub gives : GivesPeer options address
+
 -- The word `load`, and then a count from 1 to 20,000 and a seed below 2^64, in decimal.
 pub record IsLoad (words : List (List ℕ)) (count seed : ℕ) : Type 0 where
   pub is : words ≡ codes "load" ∷ decimal count ∷ decimal seed ∷ []
@@ -212,6 +225,7 @@ AsksFor words (Edit number) = AreNumberWords (codes "edit") words number
 AsksFor words Reindex = words ≡ codes "reindex" ∷ []
 AsksFor words Check = words ≡ codes "check" ∷ []
 AsksFor words Convert = words ≡ codes "convert" ∷ []
+AsksFor words (Fetch address) = IsFetching words address
 AsksFor words (Serve turns port) = IsServe words turns port
 
 -- The job that words ask for, or none if they aren't in the grammar.

@@ -30,10 +30,10 @@ pub fn runs_are_those_of_their_job()
 {}
 
 /// Shows what a crash leaves after `init` and two jobs on one disk, each `deliver`, `remove`, `purge`,
-/// `edit`, `reindex`, `check` or `convert`, by the clause `ends` of `run` alone.
+/// `edit`, `reindex`, `check`, `convert` or `fetch`, by the clause `ends` of `run` alone.
 ///
 /// The first of them may be stopped by a fault. Each live number keeps its text until it is removed,
-/// purged or edited, and no number ever names a second message.
+/// purged or edited, or until a fetch, and no number ever names a second message.
 pub fn runs_in_a_row()
     ensures { RunsInARow }
 {
@@ -47,7 +47,7 @@ pub fn runs_in_a_row()
 /// archive, or the one that `init` makes, and nothing else.
 ///
 /// `init` ran on a disk of which each crash left no open slot, and ended in any way. What the next run,
-/// `deliver`, `remove`, `purge`, `edit`, `reindex`, `check` or `convert`, answers and leaves is the
+/// `deliver`, `remove`, `purge`, `edit`, `reindex`, `check`, `convert` or `fetch`, answers and leaves is the
 /// definition's on whichever it found.
 pub fn run_after_init<D: Disk>(_disk: &D)
     ensures { RunAfterInit D.Disk }
@@ -60,8 +60,8 @@ pub fn run_after_init<D: Disk>(_disk: &D)
 
 /// Shows six promises of an archive, each of what runs of the program do.
 ///
-/// * `lost`: after serving ended by itself, the next run of a command or of `convert` finds the archive
-///   that the last act left, with all that was acknowledged, or the one in doubt there.
+/// * `lost`: after serving ended by itself, the next run of a command, of `convert` or of `fetch`
+///   finds the archive that the last act left, with all that was acknowledged, or the one in doubt there.
 /// * `replies`: at each act of a served session, and at each update of one that idles, the connection
 ///   took what the definition says, or a prefix of it.
 /// * `numbers`: no number names a second message in two archives of one run of serving, in their

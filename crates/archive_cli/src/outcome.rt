@@ -3,14 +3,16 @@
 ghost use Rattle.std.specs.Prelude.{◌≡◌, ◌++◌, codes, decimal};
 ghost use Rattle.edge_io.specs.Phrases.{SaysTo};
 ghost use Rattle.answer_lines.specs.Lines.{whole_line};
-ghost use Rattle.archive_cli.specs.Outcomes.{outcome_line, reply_line, refusal_line, reindexed_line, checked_line, unconverted_line, status_of, answer_status, conversion_status, refusal_status};
+ghost use Rattle.archive_cli.specs.Outcomes.{outcome_line, reply_line, refusal_line, reindexed_line, checked_line, unconverted_line, unfetched_line, status_of, answer_status, conversion_status, refusal_status};
 
+use crate::fetch_lines::{say_fetched, status_of_fetch};
 use crate::status::Status;
 use answer_lines::{say_answer, say_damage, say_number};
 use arch_base::Name;
 use arch_model::{Answer, OpenRefusal};
 use edge_io::{Sink, SinkFault, say, say_line};
 use epoch_store::ConvertRefusal;
+use fetch_course::FetchAnswer;
 use itoa::Buffer;
 
 /// How a command over the archive on a disk ends.
@@ -29,6 +31,10 @@ pub(crate) enum Outcome {
     Converted { entries: u64 },
     /// The archive was not converted.
     Unconverted(ConvertRefusal),
+    /// A fetch was answered.
+    Fetched(FetchAnswer),
+    /// The archive could not be opened for a fetch.
+    Unfetched(OpenRefusal),
     /// A command was answered.
     Answered(Answer),
     /// The archive could not be opened.
@@ -45,8 +51,9 @@ impl Outcome {
             Outcome::Converted { .. } => Status::Done,
             Outcome::Exists => Status::Archive,
             Outcome::Unconverted(refusal) => status_of_conversion(refusal),
+            Outcome::Fetched(answer) => status_of_fetch(answer),
             Outcome::Answered(answer) => status_of_answer(answer),
-            Outcome::Unopened(refusal) => status_of_refusal(refusal),
+            Outcome::Unopened(refusal) | Outcome::Unfetched(refusal) => status_of_refusal(refusal),
         }
     }
 
@@ -66,6 +73,8 @@ impl Outcome {
             } => say_checked(*entries, *live, *next, out),
             Outcome::Converted { entries } => say_number(b"converted ", *entries, out),
             Outcome::Unconverted(refusal) => say_unconverted(refusal, out),
+            Outcome::Fetched(answer) => say_fetched(answer, out),
+            Outcome::Unfetched(refusal) => say_unfetched(refusal, out),
             Outcome::Answered(answer) => say_reply(*answer, out),
             Outcome::Unopened(refusal) => say_refusal(refusal, out),
         }
@@ -178,6 +187,18 @@ fn say_unconverted<O: Sink>(refusal: &ConvertRefusal, out: &mut O) -> Result<(),
         ConvertRefusal::DiskFault => say_answer(Answer::DiskFault, out),
         ConvertRefusal::NoMemory => say_answer(Answer::NoMemory, out),
         ConvertRefusal::Open(why) => say_refusal(why, out),
+    }
+}
+
+/// Writes why an archive could not be opened for a fetch.
+fn say_unfetched<O: Sink>(refusal: &OpenRefusal, out: &mut O) -> Result<(), SinkFault>
+    ensures said { SaysTo O.Sink (whole_line (unfetched_line refusal.now)) out.old out.new result }
+    ensures sink { O.alike out.old out.new }
+{
+    match refusal {
+        OpenRefusal::DiskFault => say_fetched(&FetchAnswer::DiskFault, out),
+        OpenRefusal::NoMemory => say_fetched(&FetchAnswer::NoMemory, out),
+        _ => say_refusal(refusal, out),
     }
 }
 

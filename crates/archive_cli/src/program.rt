@@ -1,11 +1,11 @@
-//! All that the program does, over the disk, host, input, output and clock that it is given.
+//! All that the program does, over the disk, host, peer, input, output and clock that it is given.
 //! Writes the disk; syncs.
 ghost use Rattle.std.specs.Prelude.{◌≡◌, ◌≤◌, ◌+◌, ◌++◌, ℕ, List, All, None, length, codes, decimal};
 ghost use Rattle.disk_model.specs.Moments.{LeavesOnly};
 ghost use Rattle.root_slots.specs.OneRoot.{BeginsNoRoot, BeginsOneRoot};
 ghost use Rattle.answer_lines.specs.Lines.{whole_line};
 ghost use Rattle.archive_cli.specs.Words.{spelled, AsksFor};
-ghost use Rattle.archive_cli.specs.declared.words.Job.TheVariants.{Convert, Serve};
+ghost use Rattle.archive_cli.specs.declared.words.Job.TheVariants.{Convert, Fetch, Serve};
 ghost use Rattle.arch_base.specs.declared.config.Config.{Config};
 ghost use Rattle.arch_model.specs.declared.answer.Answer.{Answer};
 ghost use Rattle.archive_core.specs.Commands.{FilesFor, IsForCommand, way_of};
@@ -13,12 +13,14 @@ ghost use Rattle.store_finding.specs.Kept.{StoreState};
 ghost use Rattle.archive_cli.specs.DiskCommands.{taking};
 ghost use Rattle.archive_cli.specs.Outcomes.{outcome_line, status_of};
 ghost use Rattle.archive_cli.specs.Program.{RanTo, AsksForInit, AsksForMoment, TakesInput, TookAtMost, CommandActs, InitActs, InitLeaves, CommandLeaves, MessageLeaves, WordsLeave, putting, putting_answers, putting_files, putting_way, all_edges, edges, input_limit, message_limit, made_at, edges_of};
+ghost use Rattle.archive_cli.specs.Peers.{no_peer};
 ghost use Rattle.archive_cli.specs.Printing.{Exactly, IsReplayDue, Replayed, JobDone, InputDone, RunPrinted, PrintedTo};
 ghost use Rattle.arch_base.specs.Configs.{IsConfig};
 ghost use Rattle.archive_cli.specs.Serving.{ServeRun, ServesDiskAt};
 ghost use Rattle.edge_io.specs.Scripts.{IsArrival, IsScript};
 
 use crate::disk_commands::{check, convert, make, reindex, take};
+use crate::fetching::fetch_archive;
 use crate::loading::load_and_print;
 use crate::outcome::Outcome;
 use crate::playing::play_script;
@@ -32,18 +34,19 @@ use arch_base::{Config, Numbers};
 use arch_model::Command;
 use archive_core::Engine;
 use disk_model::{Disk, MemDisk};
-use edge_io::{Clock, ClockFault, Host, Script, ScriptRefusal, Sink, Source, say, script};
+use edge_io::{Clock, ClockFault, Host, Peer, Script, ScriptRefusal, Sink, Source, say, script};
 use std::alloc::Global;
 
 /// Does what the words ask for, and returns the number of the status to end with, and the disk.
 ///
 /// `Status` says when each status comes. What is printed is that of the definition, or a prefix of
 /// it if the output failed.
-pub fn run<D: Disk, H: Host, S: Source, O: Sink, C: Clock>(
+pub fn run<D: Disk, H: Host, P: Peer, S: Source, O: Sink, C: Clock>(
     alloc: Global,
     words: &[&str],
     disk: D,
     host: &mut H,
+    peer: &mut P,
     input: &mut S,
     out: &mut O,
     clock: &mut C,
@@ -51,22 +54,23 @@ pub fn run<D: Disk, H: Host, S: Source, O: Sink, C: Clock>(
     // A definition for each job has the same of that job alone, as `RanPurge 3` of `purge 3`:
     // `runs_are_those_of_their_job`.
     ensures ends { RanTo (spelled words.now) result.0
-        (edges_of S.Source O.Sink C.Clock D.Disk input.old out.old clock.old disk)
-        (edges_of S.Source O.Sink C.Clock D.Disk input.new out.new clock.new result.1) }
+        (edges_of S.Source O.Sink C.Clock D.Disk P.Peer input.old out.old clock.old disk peer.old)
+        (edges_of S.Source O.Sink C.Clock D.Disk P.Peer input.new out.new clock.new result.1 peer.new) }
     ensures input { TakesInput (spelled words.now) (S.left input.old) (S.faults input.old)
         (S.left input.new) (S.faults input.new) }
     ensures sink { O.alike out.old out.new }
     // What the job of the words does to the disk, and what a crash leaves at each moment of it.
     ensures crash { WordsLeave D.Disk (spelled words.now) disk result.1
-        (S.left input.old) (C.coming clock.old) }
+        (S.left input.old) (C.coming clock.old) (P.left peer.old) }
     // Unless an archive is made or served, at most one root is begun, also where the disk fails: all
     // bytes of the root file but those of one slot are at each moment as before.
     ensures crash_root { (AsksForInit (spelled words.now) → ⊥)
         → ((turns port : ℕ) → AsksFor (spelled words.now) (Serve turns port) → ⊥)
         → BeginsOneRoot D.Disk disk result.1 }
-    // None is begun unless the words ask for a command or a conversion.
+    // None is begun unless the words ask for a command, a conversion or a fetch.
     ensures crash_none { (AsksForMoment (spelled words.now) → ⊥)
         → (AsksFor (spelled words.now) Convert → ⊥)
+        → ((address : List ℕ) → AsksFor (spelled words.now) (Fetch address) → ⊥)
         → ((turns port : ℕ) → AsksFor (spelled words.now) (Serve turns port) → ⊥)
         → BeginsNoRoot D.Disk disk result.1 }
     // What serving did: the events that it took, the replies to each over the archive of that moment,
@@ -78,9 +82,13 @@ pub fn run<D: Disk, H: Host, S: Source, O: Sink, C: Clock>(
     // Only serving asks the host.
     ensures host { ((turns port : ℕ) → AsksFor (spelled words.now) (Serve turns port) → ⊥)
         → host.new ≡ host.old }
+    // Only a fetch asks the peer.
+    ensures peer { ((address : List ℕ) → AsksFor (spelled words.now) (Fetch address) → ⊥)
+        → peer.new ≡ peer.old }
     // Only `init` and the commands ask the clock.
     ensures clock { (AsksForMoment (spelled words.now) → ⊥) → clock.new ≡ clock.old }
-    ensures later { (D.faults disk ≤ D.faults result.1) × (C.faults clock.old ≤ C.faults clock.new) }
+    ensures later { (D.faults disk ≤ D.faults result.1) × (C.faults clock.old ≤ C.faults clock.new)
+        × (P.faults peer.old ≤ P.faults peer.new) }
 {
     match read_words(words) {
         None => (
@@ -123,6 +131,10 @@ pub fn run<D: Disk, H: Host, S: Source, O: Sink, C: Clock>(
             let (outcome, disk) = convert(alloc, disk);
             (print_outcome(&outcome, out).code(), disk)
         }
+        Some(Job::Fetch { address: _address }) => {
+            let (outcome, disk) = fetch_archive(alloc, disk, peer);
+            (print_outcome(&outcome, out).code(), disk)
+        }
         Some(Job::Serve { turns, port: _port }) => {
             let (status, disk) = serve_disk(alloc, turns, disk, host, out);
             (status.code(), disk)
@@ -141,9 +153,9 @@ fn init<D: Disk, O: Sink, C: Clock>(
     requires { IsConfig config }
     ensures ends { JobDone (InitActs config) result.0
         (all_edges None 0 (O.taken out.old) (O.faults out.old) (C.coming clock.old)
-        (C.faults clock.old) (D.content disk) (D.faults disk))
+        (C.faults clock.old) (D.content disk) (D.faults disk) no_peer)
         (all_edges None 0 (O.taken out.new) (O.faults out.new) (C.coming clock.new)
-        (C.faults clock.new) (D.content result.1) (D.faults result.1)) }
+        (C.faults clock.new) (D.content result.1) (D.faults result.1) no_peer) }
     ensures crash { LeavesOnly D.Disk disk result.1
         (InitLeaves config (C.coming clock.old) (D.content disk)) }
     ensures disk_later { D.faults disk ≤ D.faults result.1 }
@@ -180,8 +192,10 @@ fn put_input<D: Disk, S: Source, O: Sink, C: Clock>(
     clock: &mut C,
 ) -> (Status, D)
     ensures ends { InputDone place result.0
-        (edges_of S.Source O.Sink C.Clock D.Disk input.old out.old clock.old disk)
-        (edges_of S.Source O.Sink C.Clock D.Disk input.new out.new clock.new result.1) }
+        (all_edges (S.left input.old) (S.faults input.old) (O.taken out.old) (O.faults out.old)
+        (C.coming clock.old) (C.faults clock.old) (D.content disk) (D.faults disk) no_peer)
+        (all_edges (S.left input.new) (S.faults input.new) (O.taken out.new) (O.faults out.new)
+        (C.coming clock.new) (C.faults clock.new) (D.content result.1) (D.faults result.1) no_peer) }
     ensures later { S.faults input.old ≤ S.faults input.new }
     ensures few { TookAtMost message_limit (S.left input.old) (S.left input.new) }
     ensures crash { MessageLeaves D.Disk disk result.1
@@ -232,9 +246,9 @@ fn carry_out<D: Disk, O: Sink, C: Clock>(
     ensures ends { JobDone (CommandActs (way_of command.now) (FilesFor command.now)
         (IsForCommand command.now) (taking command.now)) result.0
         (all_edges None 0 (O.taken out.old) (O.faults out.old) (C.coming clock.old)
-        (C.faults clock.old) (D.content disk) (D.faults disk))
+        (C.faults clock.old) (D.content disk) (D.faults disk) no_peer)
         (all_edges None 0 (O.taken out.new) (O.faults out.new) (C.coming clock.new)
-        (C.faults clock.new) (D.content result.1) (D.faults result.1)) }
+        (C.faults clock.new) (D.content result.1) (D.faults result.1) no_peer) }
     ensures crash { CommandLeaves D.Disk disk result.1
         (C.coming clock.old) (way_of command.now) (taking command.now) }
     ensures crash_root { BeginsOneRoot D.Disk disk result.1 }

@@ -18,6 +18,8 @@ pub enum Status {
     Archive,
     /// The disk failed.
     Disk,
+    /// The archive to be fetched is no mirror, or its peer failed or gave what isn't taken.
+    Peer,
     /// The input, the clock, the output or the sockets failed.
     Edges,
     /// An allocation failed.
@@ -39,6 +41,7 @@ impl Status {
             Status::NotRead => 2,
             Status::Archive => 3,
             Status::Disk => 4,
+            Status::Peer => 5,
             Status::Edges => 6,
             Status::Memory => 7,
             Status::Spent => 8,

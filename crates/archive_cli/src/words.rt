@@ -5,6 +5,7 @@ ghost use Rattle.edge_io.specs.Parsing.{Spells};
 ghost use Rattle.archive_cli.specs.Words.{IsJob, IsLone, IsSetting, IsServeOption, IsOneUpTo, config_of, setting_word, serve_word, spelled};
 ghost use Rattle.archive_cli.specs.Options.{IsCollected, IsConfigured, IsServing, IsWith, config_by};
 
+use crate::address::Address;
 use arch_base::{Config, Form, Name, read_decimal};
 use load_run::GREATEST_LOAD;
 
@@ -59,6 +60,8 @@ pub enum Job {
     Check,
     /// `convert`: converts the archive to SHA-256 ids.
     Convert,
+    /// `fetch` with an option: makes the archive, which is a mirror, that of the peer's list.
+    Fetch { address: Address },
     /// `serve` with options: serves the archive, at most so many events, from this port on.
     Serve { turns: u64, port: u16 },
 }
@@ -166,8 +169,8 @@ pub(crate) fn default_config(name: Name) -> Config
 
 /// Returns what these words ask for, or `None` if they aren't in the grammar.
 ///
-/// The grammar is `--help`, `--version`, `deliver`, `reindex`, `check`, `convert`, `serve`, `remove`,
-/// `purge` or `edit` with a number from 1 to 2,147,483,647, `load` with a count from 1 to 20,000 and a
+/// The grammar is `--help`, `--version`, `deliver`, `reindex`, `check`, `convert`, `fetch`, `serve`,
+/// `remove`, `purge` or `edit` with a number from 1 to 2,147,483,647, `load` with a count from 1 to 20,000 and a
 /// seed, or `init` or `replay` with the name of an archive and options. Each option comes at most once,
 /// in any order:
 ///
@@ -182,6 +185,9 @@ pub(crate) fn default_config(name: Name) -> Config
 /// * `turns=N`: 1 to 9,223,372,036,854,775,808, which is the default;
 /// * `port=N`: 1 to 65,500, by default 7100.
 ///
+/// `fetch` has one option, `peer=ADDRESS`, by default `127.0.0.1:7101`. An address has 1 to 255 bytes, each a
+/// printable one of ASCII and no space.
+///
 /// Numbers are decimals without leading zeros, and a seed is below 2^64. Allocates nothing.
 pub fn read_words(words: &[&str]) -> Option<Job>
     ensures { IsJob (spelled words.now) result }
@@ -193,17 +199,42 @@ pub fn read_words(words: &[&str]) -> Option<Job>
 }
 
 /// Returns what a word and those after it ask for.
-#[tactic(auto, using(crate::proofs::Grammar::serve_named))]
+#[tactic(auto, using(crate::proofs::Grammar::serve_named, crate::proofs::Grammar::fetch_named))]
 fn read_command(word: &str, more: &[&str]) -> Option<Job>
     ensures { IsJob (word.now ∷ spelled more.now) result }
 {
     if word == "serve" {
         return read_serve(more);
     }
+    if word == "fetch" {
+        return read_fetch(more);
+    }
     match more {
         [] => read_one(word),
         [name, options @ ..] => read_named(word, name, options),
     }
+}
+
+/// Returns the fetch that options ask for, or `None` if there are several, or one spells no address.
+fn read_fetch(options: &[&str]) -> Option<Job>
+    ensures { IsJob (codes "fetch" ∷ spelled options.now) result }
+{
+    match options {
+        [] => Some(Job::Fetch {
+            address: Address::by_default(),
+        }),
+        [option] => read_peer(option),
+        _ => None,
+    }
+}
+
+/// Returns the fetch from the peer that an option names.
+fn read_peer(option: &str) -> Option<Job>
+    ensures { IsJob (codes "fetch" ∷ option.now ∷ []) result }
+{
+    let text = option.as_bytes().strip_prefix(b"peer=")?;
+    let address = Address::read(text)?;
+    Some(Job::Fetch { address })
 }
 
 /// Returns the serving that options ask for, or `None` if a word is none of them, or two are of one
@@ -280,7 +311,8 @@ fn read_serve_option(word: &str) -> Option<ServeOption>
 
 /// Returns what one word asks for.
 fn read_one(word: &str) -> Option<Job>
-    requires { word.now ≢ codes "serve" }
+    requires no_serve { word.now ≢ codes "serve" }
+    requires no_fetch { word.now ≢ codes "fetch" }
     ensures { IsJob (word.now ∷ []) result }
 {
     match word {
@@ -297,7 +329,8 @@ fn read_one(word: &str) -> Option<Job>
 /// Returns what two words and those after them ask for.
 #[tactic(auto, using(crate::proofs::Grammar::not_made, crate::proofs::Grammar::other_word, crate::proofs::Grammar::replayed, crate::proofs::Grammar::not_replayed, crate::proofs::Grammar::removal_named, crate::proofs::Grammar::purge_named, crate::proofs::Grammar::edit_named, crate::proofs::Grammar::load_named))]
 fn read_named(word: &str, name: &str, options: &[&str]) -> Option<Job>
-    requires { word.now ≢ codes "serve" }
+    requires no_serve { word.now ≢ codes "serve" }
+    requires no_fetch { word.now ≢ codes "fetch" }
     ensures { IsJob (word.now ∷ name.now ∷ spelled options.now) result }
 {
     match word {
