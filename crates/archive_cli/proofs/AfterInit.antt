@@ -12,6 +12,7 @@ use Rattle.root_slots.specs.RootName.{root_name}
 use Rattle.root_slots.specs.Slots.{Current, HasRoot, IsShutFile, SpellsNoRoot, body_at}
 use Rattle.root_slots.specs.Spelling.{spelling}
 use Rattle.edge_io.specs.Coming.{Moments, after_first}
+use Rattle.edge_io.specs.declared.peer.Reply.{Reply}
 use Rattle.arch_model.specs.Archives.{Archive, empty_archive}
 use Rattle.arch_model.specs.Delivery.{Done}
 use Rattle.arch_model.specs.Following.{FollowsItself}
@@ -29,16 +30,20 @@ use Rattle.epoch_store.specs.Opens.{IsOnlySynced, IsOpenedIn, OpensNone, ReadsWi
 use Rattle.epoch_store.specs.Promises.{WriteKind, Appends, Renews, cache_by}
 use Rattle.answer_lines.specs.Lines.{whole_line}
 use Rattle.archive_cli.specs.declared.outcome.Outcome.{Outcome}
-use Rattle.archive_cli.specs.declared.outcome.Outcome.TheVariants.{Made, Exists, Reindexed, Checked, Converted, Unconverted, Answered, Unopened}
+use Rattle.archive_cli.specs.declared.outcome.Outcome.TheVariants.{Made, Exists, Reindexed, Checked, Converted, Unconverted, Fetched, Unfetched, Answered, Unopened}
 use Rattle.archive_cli.specs.declared.status.Status.{Status}
 use Rattle.archive_cli.specs.declared.words.Job.{Job}
-use Rattle.archive_cli.specs.declared.words.Job.TheVariants.{Help, Version, Replay, Load, Init, Deliver, Remove, Purge, Edit, Reindex, Check, Convert, Serve}
-use Rattle.archive_cli.specs.DiskCommands.{IsOpenedAs, RunsOrStays, LeavesConverted, LeavesEither, delivering, removing, purging, editing}
+use Rattle.archive_cli.specs.declared.words.Job.TheVariants.{Help, Version, Replay, Load, Init, Deliver, Remove, Purge, Edit, Reindex, Check, Convert, Fetch, Serve}
+use Rattle.archive_core.specs.Commands.{AnswersPurge, AnswersRemoval}
+use Rattle.archive_core.specs.Openings.{LeavesKindly}
+use Rattle.archive_cli.specs.DiskCommands.{IsCheck, IsConversion, IsOpenedAs, IsReindex, IsReply, RunsOrStays, LeavesConverted, LeavesEither, delivering, removing, purging, editing}
+use Rattle.archive_cli.specs.Fetches.{BecomesOver, IsFetch, LeavesFetched}
 use Rattle.archive_cli.specs.Jobs.{DueRule, ShortDue}
-use Rattle.archive_cli.specs.Laws.{NoneOrNew, LeavesNone, NoneDue, DueOn, EndedAsDue, FoundNone, FoundNew, RunAfterInit, Goes}
+use Rattle.archive_cli.specs.Laws.{NoneOrNew, LeavesNone, NoneDue, DueOn, EndedAsDue, FoundNone, FoundNew, RunAfterInit, Goes, unopened_by}
 use Rattle.archive_cli.specs.OpenedFiles.{LeavesFiles}
 use Rattle.archive_cli.specs.Outcomes.{outcome_line, status_of}
-use Rattle.archive_cli.specs.Program.{RunState, JobEnds, InitLeaves, JobLeaves, IsDue, RunEnds, IsInput, IsOnArchive, WordsLeave, message_of, made_at, unasked}
+use Rattle.archive_cli.specs.Peers.{AreFirst}
+use Rattle.archive_cli.specs.Program.{RunState, JobEnds, InitLeaves, JobLeaves, IsDue, RunEnds, AsksForMessage, IsInput, IsOnArchive, WordsLeave, message_of, made_at, putting_answers, unasked}
 use Rattle.archive_cli.specs.Words.{AsksFor}
 use Rattle.archive_cli.proofs.OneJob.{same-asked}
 use Rattle.archive_cli.proofs.Rows.{goes-by, only-on}
@@ -72,11 +77,20 @@ none-or-new config coming k image shut (moment, first, inl before) = inl (shut i
 none-or-new config coming k image shut (moment, first, inr (was, inl none)) = inl none
 none-or-new config coming k image shut (moment, first, inr (was, inr new)) = inr (moment, first, new)
 
+-- An outcome is that of an archive that wasn't opened, for a fetch or for something else.
+abbrev IsUnopened : OpenRefusal → Outcome → Type 0
+IsUnopened why o = (o ≡ Unopened why) ⊎ (o ≡ Unfetched why)
+
 -- How a run without an archive ended.
-none-ended : (files : Files) (o : Outcome) → IsShutFile (files root_name) → IsOpenedAs files o → (why : OpenRefusal) × (o ≡ Unopened why) × ((file : FileName) (at : ℕ) → why ≡ refusal.Damaged file at → ⊥)
-none-ended files (Unopened refusal.NoArchive) shut opened = (refusal.NoArchive, refl, λ file at is. cc is)
-none-ended files (Unopened refusal.DiskFault) shut opened = (refusal.DiskFault, refl, λ file at is. cc is)
-none-ended files (Unopened refusal.NoMemory) shut opened = (refusal.NoMemory, refl, λ file at is. cc is)
+none-ended : (files : Files) (o : Outcome) → IsShutFile (files root_name) → IsOpenedAs files o → (why : OpenRefusal) × IsUnopened why o × ((file : FileName) (at : ℕ) → why ≡ refusal.Damaged file at → ⊥)
+none-ended files (Unopened refusal.NoArchive) shut opened = (refusal.NoArchive, inl refl, λ file at is. cc is)
+none-ended files (Unopened refusal.DiskFault) shut opened = (refusal.DiskFault, inl refl, λ file at is. cc is)
+none-ended files (Unopened refusal.NoMemory) shut opened = (refusal.NoMemory, inl refl, λ file at is. cc is)
+none-ended files (Unfetched refusal.NoArchive) shut opened = (refusal.NoArchive, inr refl, λ file at is. cc is)
+none-ended files (Unfetched refusal.DiskFault) shut opened = (refusal.DiskFault, inr refl, λ file at is. cc is)
+none-ended files (Unfetched refusal.NoMemory) shut opened = (refusal.NoMemory, inr refl, λ file at is. cc is)
+none-ended files (Unfetched (refusal.Damaged file at)) shut opened = absurd (no-damage files file at shut opened)
+none-ended files (Fetched told) shut opened = absurd (no-root files shut opened.0 opened.1)
 none-ended files (Unopened (refusal.Damaged file at)) shut opened = absurd (no-damage files file at shut opened)
 none-ended files (Reindexed live) shut opened = absurd (no-root files shut opened.0 opened.1)
 none-ended files (Checked entries live next) shut opened = absurd (no-root files shut opened.0 opened.1)
@@ -86,7 +100,21 @@ none-ended files (Answered reply) shut opened = absurd (no-root files shut opene
 none-ended files (Made name) shut opened = absurd opened
 none-ended files Exists shut opened = absurd opened
 
-none-kept : (k : Content) (new : Option Content) (why : OpenRefusal) → IsShutFile (k root_name).seen → LeavesFiles (Unopened why) (Some k) new → why ≡ refusal.NoArchive → LeavesNone new
+-- Which of both it is, is said by the kind of the outcome.
+plain-named : (Kind : Outcome → Type 0) → ((why : OpenRefusal) → Kind (Unfetched why) → ⊥) → (o : Outcome) → Kind o → (why : OpenRefusal) → IsUnopened why o → o ≡ Unopened why
+plain-named Kind none o kind why (inl is) = is
+plain-named Kind none o kind why (inr is) = absurd (none why (subst Kind is kind))
+
+fetch-named : (o : Outcome) → IsFetch o → (why : OpenRefusal) → IsUnopened why o → o ≡ Unfetched why
+fetch-named o kind why (inl is) = absurd (subst IsFetch is kind)
+fetch-named o kind why (inr is) = is
+
+-- What it leaves.
+kindly-left : (o : Outcome) (why : OpenRefusal) (old new : Option Content) → IsUnopened why o → LeavesFiles o old new → LeavesKindly why old new
+kindly-left o why old new (inl is) files = subst (λ (p : Outcome). LeavesFiles p old new) is files
+kindly-left o why old new (inr is) files = subst (λ (p : Outcome). LeavesFiles p old new) is files
+
+none-kept : (k : Content) (new : Option Content) (why : OpenRefusal) → IsShutFile (k root_name).seen → LeavesKindly why (Some k) new → why ≡ refusal.NoArchive → LeavesNone new
 none-kept k new refusal.NoArchive shut synced is = λ image left. left-shut k new image synced shut left
 none-kept k new (refusal.Damaged file at) shut left is = absurd (cc is)
 none-kept k new refusal.DiskFault shut left is = absurd (cc is)
@@ -100,33 +128,46 @@ ended-by due other words code i j f (status, is, inr (inr (inl failed))) = (stat
 ended-by due other words code i j f (status, is, inr (inr (inr p))) =
     (status, is, inr (inr (inr (record { status_is = p.status_is; rose = p.rose; input = p.input; told = p.told; due_status = p.due_status; printed = p.printed; due = f p.input p.told p.due_status p.printed p.due; count = p.count; taken_is = p.taken_is }))))
 
+-- A job whose archive is opened for no fetch.
+abbrev IsPlain : Option Job → Type 0
+IsPlain None = Unit {0}
+IsPlain (Some job) = (why : OpenRefusal) → unopened_by job why ≡ Unopened why
+
+message-plain : (words : List (List ℕ)) (job : Job) → AsksFor words job → AsksForMessage words → IsPlain (Some job)
+message-plain words job asked (inl deliver) = subst IsPlain (same-asked words (Some Deliver) (Some job) deliver asked) (λ why. refl)
+message-plain words job asked (inr (number, edit)) = subst IsPlain (same-asked words (Some (Edit number)) (Some job) edit asked) (λ why. refl)
+
 -- What is due of a run is due of its job, or that memory ran out for its message.
-of-job : (words : List (List ℕ)) (job : Job) → AsksFor words job → IsOnArchive job → (input : List ℕ) (i j : RunState) (s : Status) (printed : List ℕ) → IsDue words input i j s printed → RunEnds (Some job) input i j s printed ⊎ ShortDue input i j s printed
+of-job : (words : List (List ℕ)) (job : Job) → AsksFor words job → IsOnArchive job → (input : List ℕ) (i j : RunState) (s : Status) (printed : List ℕ) → IsDue words input i j s printed → RunEnds (Some job) input i j s printed ⊎ (ShortDue input i j s printed × IsPlain (Some job))
 of-job words job asked on input i j s printed (inl does) = inl (subst (λ (x : Option Job). RunEnds x input i j s printed) (same-asked words does.job (Some job) does.asked asked) does.ends)
 of-job words job asked on input i j s printed (inr (inl out)) = absurd (only-on words (Replay out.config) (job, on, asked) out.asked)
-of-job words job asked on input i j s printed (inr (inr (inl out))) = inr (out.status_is, out.printed_is, out.kept, out.spared)
-of-job words job asked on input i j s printed (inr (inr (inr out))) = inr (out.status_is, out.printed_is, out.kept, out.spared)
+of-job words job asked on input i j s printed (inr (inr (inl out))) = absurd (only-on words (Load out.count out.seed) (job, on, asked) out.asked)
+of-job words job asked on input i j s printed (inr (inr (inr out))) = inr ((out.status_is, out.printed_is, out.kept, out.spared), message-plain words job asked out.asked)
 
 -- A disk that reads without an open slot.
 module _ (c : Content) (shut : IsShutFile (c root_name).seen) (i j : RunState) (told : i.content ≡ Some c) where
-  none-job : (did : ℕ → Option Content → Option Content → Outcome → Type 0) (goes : Option Moments → Option Moments) (input : List ℕ) (s : Status) (printed : List ℕ) → (ends : JobEnds did goes i j s printed)
-      → WhereTold (λ (k : Content). IsOpenedAs (as_read k) ends.outcome) i.content → LeavesFiles ends.outcome i.content j.content → NoneDue input i j s printed
-  none-job did goes input s printed ends answer files =
+  none-job : (job : Job) (did : ℕ → Option Content → Option Content → Outcome → Type 0) (goes : Option Moments → Option Moments) (input : List ℕ) (s : Status) (printed : List ℕ) → (ends : JobEnds did goes i j s printed)
+      → ((why : OpenRefusal) → IsUnopened why ends.outcome → ends.outcome ≡ unopened_by job why) → WhereTold (λ (k : Content). IsOpenedAs (as_read k) ends.outcome) i.content → LeavesFiles ends.outcome i.content j.content → NoneDue job input i j s printed
+  none-job job did goes input s printed ends names answer files =
       let n = none-ended (as_read c) ends.outcome shut (subst (λ (k : Option Content). WhereTold (λ (m : Content). IsOpenedAs (as_read m) ends.outcome) k) told answer) in
-      let left : LeavesFiles (Unopened n.0) (Some c) j.content = subst (λ (o : Outcome). LeavesFiles o (Some c) j.content) n.1 (subst (λ (k : Option Content). LeavesFiles ends.outcome k j.content) told files) in
-      (n.0, n.2, ends.status_is ∙ ap status_of n.1, ends.printed_is ∙ ap (λ (o : Outcome). whole_line (outcome_line o)) n.1, none-kept c j.content n.0 shut left)
+      let left = kindly-left ends.outcome n.0 (Some c) j.content n.1 (subst (λ (k : Option Content). LeavesFiles ends.outcome k j.content) told files) in
+      let is = names n.0 n.1 in
+      (n.0, n.2, ends.status_is ∙ ap status_of is, ends.printed_is ∙ ap (λ (o : Outcome). whole_line (outcome_line o)) is, none-kept c j.content n.0 shut left)
 
-  none-short : (input : List ℕ) (s : Status) (printed : List ℕ) → ShortDue input i j s printed → NoneDue input i j s printed
-  none-short input s printed short = (refusal.NoMemory, (λ file at is. cc is), short.0, short.1, λ is. cc is)
+  none-short : (job : Job) (input : List ℕ) (s : Status) (printed : List ℕ) → IsPlain (Some job) → ShortDue input i j s printed → NoneDue job input i j s printed
+  none-short job input s printed plain short =
+      let is = plain refusal.NoMemory in
+      (refusal.NoMemory, (λ file at is. cc is), short.0 ∙ sym (ap status_of is), short.1 ∙ sym (ap (λ (o : Outcome). whole_line (outcome_line o)) is), λ is. cc is)
 
-  none-ends : (job : Job) → IsOnArchive job → (input : List ℕ) (s : Status) (printed : List ℕ) → RunEnds (Some job) input i j s printed → NoneDue input i j s printed
-  none-ends Deliver on input s printed ends = none-job _ after_first input s printed ends ends.acts.acts.answer ends.acts.acts.files
-  none-ends (Remove number) on input s printed ends = none-job _ after_first input s printed ends ends.acts.acts.answer ends.acts.acts.files
-  none-ends (Purge number) on input s printed ends = none-job _ after_first input s printed ends ends.acts.acts.answer ends.acts.acts.files
-  none-ends (Edit number) on input s printed ends = none-job _ after_first input s printed ends ends.acts.acts.answer ends.acts.acts.files
-  none-ends Reindex on input s printed ends = none-job _ unasked input s printed ends ends.acts.acts.answer ends.acts.acts.files
-  none-ends Check on input s printed ends = none-job _ unasked input s printed ends ends.acts.acts.answer ends.acts.acts.files
-  none-ends Convert on input s printed ends = none-job _ unasked input s printed ends ends.acts.acts.answer ends.acts.acts.files
+  none-ends : (job : Job) → IsOnArchive job → (input : List ℕ) (s : Status) (printed : List ℕ) → RunEnds (Some job) input i j s printed → NoneDue job input i j s printed
+  none-ends Deliver on input s printed ends = none-job Deliver _ after_first input s printed ends (plain-named (IsReply (putting_answers None)) (λ why never. never) ends.outcome ends.acts.acts.kind) ends.acts.acts.answer ends.acts.acts.files
+  none-ends (Remove number) on input s printed ends = none-job (Remove number) _ after_first input s printed ends (plain-named (IsReply (AnswersRemoval number)) (λ why never. never) ends.outcome ends.acts.acts.kind) ends.acts.acts.answer ends.acts.acts.files
+  none-ends (Purge number) on input s printed ends = none-job (Purge number) _ after_first input s printed ends (plain-named (IsReply (AnswersPurge number)) (λ why never. never) ends.outcome ends.acts.acts.kind) ends.acts.acts.answer ends.acts.acts.files
+  none-ends (Edit number) on input s printed ends = none-job (Edit number) _ after_first input s printed ends (plain-named (IsReply (putting_answers (Some number))) (λ why never. never) ends.outcome ends.acts.acts.kind) ends.acts.acts.answer ends.acts.acts.files
+  none-ends Reindex on input s printed ends = none-job Reindex _ unasked input s printed ends (plain-named IsReindex (λ why never. never) ends.outcome ends.acts.acts.kind) ends.acts.acts.answer ends.acts.acts.files
+  none-ends Check on input s printed ends = none-job Check _ unasked input s printed ends (plain-named IsCheck (λ why never. never) ends.outcome ends.acts.acts.kind) ends.acts.acts.answer ends.acts.acts.files
+  none-ends Convert on input s printed ends = none-job Convert _ unasked input s printed ends (plain-named IsConversion (λ why never. never) ends.outcome ends.acts.acts.kind) ends.acts.acts.answer ends.acts.acts.files
+  none-ends (Fetch address) on input s printed ends = none-job (Fetch address) _ unasked input s printed ends.ends (fetch-named ends.ends.outcome ends.ends.acts.acts.kind) ends.ends.acts.acts.answer ends.ends.acts.acts.files
   none-ends Help never input s printed ends = absurd never
   none-ends Version never input s printed ends = absurd never
   none-ends (Replay config) never input s printed ends = absurd never
@@ -134,10 +175,10 @@ module _ (c : Content) (shut : IsShutFile (c root_name).seen) (i j : RunState) (
   none-ends (Init config) never input s printed ends = absurd never
   none-ends (Serve turns port) never input s printed ends = absurd never
 
-  none-due : (words : List (List ℕ)) (job : Job) → AsksFor words job → IsOnArchive job → (input : List ℕ) → IsInput i.left input → (s : Status) (printed : List ℕ) → IsDue words input i j s printed → NoneDue input i j s printed
+  none-due : (words : List (List ℕ)) (job : Job) → AsksFor words job → IsOnArchive job → (input : List ℕ) → IsInput i.left input → (s : Status) (printed : List ℕ) → IsDue words input i j s printed → NoneDue job input i j s printed
   none-due words job asked on input is s printed due = elim (of-job words job asked on input i j s printed due) [
     | inl ends ↦ none-ends job on input s printed ends
-    | inr short ↦ none-short input s printed short
+    | inr short ↦ none-short job input s printed short.1 short.0
   ]
 
 -- A disk that reads as an archive.
@@ -150,6 +191,7 @@ module _ (a : Archive) (i j : RunState) (reads : ReadsWith [] a i.content) where
   new-ends Reindex on input s printed ends = inl (ends.outcome, ends.acts.moment, ends.acts.first, ends.acts.acts.done a [] reads, ends.status_is, ends.printed_is)
   new-ends Check on input s printed ends = inl (ends.outcome, ends.acts.moment, ends.acts.first, ends.acts.acts.done a [] reads, ends.status_is, ends.printed_is)
   new-ends Convert on input s printed ends = inl (ends.outcome, ends.acts.moment, ends.acts.first, ends.acts.acts.done a [] reads, ends.status_is, ends.printed_is)
+  new-ends (Fetch address) on input s printed ends = inl (ends.ends.outcome, ends.ends.acts.moment, ends.ends.acts.first, (ends.given, ends.put, ends.gave, ends.ends.acts.acts.done a [] reads), ends.ends.status_is, ends.ends.printed_is)
   new-ends Help never input s printed ends = absurd never
   new-ends Version never input s printed ends = absurd never
   new-ends (Replay config) never input s printed ends = absurd never
@@ -160,7 +202,7 @@ module _ (a : Archive) (i j : RunState) (reads : ReadsWith [] a i.content) where
   new-due : (words : List (List ℕ)) (job : Job) → AsksFor words job → IsOnArchive job → (input : List ℕ) → IsInput i.left input → (s : Status) (printed : List ℕ) → IsDue words input i j s printed → DueOn job a input i j s printed
   new-due words job asked on input is s printed due = elim (of-job words job asked on input i j s printed due) [
     | inl ends ↦ new-ends job on input s printed ends
-    | inr short ↦ inr short
+    | inr short ↦ inr short.0
   ]
 
 -- A command drops no cache where there is none.
@@ -170,8 +212,8 @@ no-cache Renews = refl
 
 module _ {D : Type 0} (g : Disk D) where
   -- What the job of the words leaves.
-  job-leaves : (words : List (List ℕ)) (job : Job) (old new : D) (left : Option (List ℕ)) (coming : Option Moments) → AsksFor words job → WordsLeave g words old new left coming → JobLeaves g (Some job) old new left coming
-  job-leaves words job old new left coming asked did = subst (λ (x : Option Job). JobLeaves g x old new left coming) (same-asked words did.0 (Some job) did.1 asked) did.2
+  job-leaves : (words : List (List ℕ)) (job : Job) (old new : D) (left : Option (List ℕ)) (coming : Option Moments) (replies : Option (List Reply)) → AsksFor words job → WordsLeave g words old new left coming replies → JobLeaves g (Some job) old new left coming replies
+  job-leaves words job old new left coming replies asked did = subst (λ (x : Option Job). JobLeaves g x old new left coming replies) (same-asked words did.0 (Some job) did.1 asked) did.2
 
   -- A run on a disk that may have no archive or a new one.
   module _ (config : Config) (coming : Option Moments) (from next : D) (each : (image : Files) → Image (g.content from) image → NoneOrNew config coming image) where
@@ -183,20 +225,21 @@ module _ {D : Type 0} (g : Disk D) where
           let only : BothTold IsOnlySynced (Some c) (g.content first.synced) = subst (λ (k : Option Content). BothTold IsOnlySynced k (g.content first.synced)) told first.only in
           joined g from first.synced next (Image (g.content from)) (Image (g.content first.synced)) (NoneOrNew config coming) first.before (first.none none) each (λ image left. inl (left-shut c (g.content first.synced) image only shut left))
 
-      none-leaves : (job : Job) → IsOnArchive job → (left : Option (List ℕ)) (at : Option Moments) → JobLeaves g (Some job) from next left at → LeavesOnly g from next (NoneOrNew config coming)
-      none-leaves Deliver on left at (sent, is, (moment, first, runs)) = none-runs _ runs
-      none-leaves (Remove number) on left at (moment, first, runs) = none-runs _ runs
-      none-leaves (Purge number) on left at (moment, first, runs) = none-runs _ runs
-      none-leaves (Edit number) on left at (sent, is, (moment, first, runs)) = none-runs _ runs
-      none-leaves Reindex on left at runs = none-runs _ runs
-      none-leaves Check on left at runs = none-runs _ runs
-      none-leaves Convert on left at runs = none-runs _ runs
-      none-leaves Help never left at runs = absurd never
-      none-leaves Version never left at runs = absurd never
-      none-leaves (Replay settings) never left at runs = absurd never
-      none-leaves (Load count seed) never left at runs = absurd never
-      none-leaves (Init settings) never left at runs = absurd never
-      none-leaves (Serve turns port) never left at runs = absurd never
+      none-leaves : (job : Job) → IsOnArchive job → (left : Option (List ℕ)) (at : Option Moments) (replies : Option (List Reply)) → JobLeaves g (Some job) from next left at replies → LeavesOnly g from next (NoneOrNew config coming)
+      none-leaves Deliver on left at replies (sent, is, (moment, first, runs)) = none-runs _ runs
+      none-leaves (Remove number) on left at replies (moment, first, runs) = none-runs _ runs
+      none-leaves (Purge number) on left at replies (moment, first, runs) = none-runs _ runs
+      none-leaves (Edit number) on left at replies (sent, is, (moment, first, runs)) = none-runs _ runs
+      none-leaves Reindex on left at replies runs = none-runs _ runs
+      none-leaves Check on left at replies runs = none-runs _ runs
+      none-leaves Convert on left at replies runs = none-runs _ runs
+      none-leaves (Fetch address) on left at replies (given, first, runs) = none-runs _ runs
+      none-leaves Help never left at replies runs = absurd never
+      none-leaves Version never left at replies runs = absurd never
+      none-leaves (Replay settings) never left at replies runs = absurd never
+      none-leaves (Load count seed) never left at replies runs = absurd never
+      none-leaves (Init settings) never left at replies runs = absurd never
+      none-leaves (Serve turns port) never left at replies runs = absurd never
 
     module _ (keeps : KeepsNumbers) (takes : TakesFromView) (itself : FollowsItself) (commands : CommandFollows) (converts : ConversionFollows) (words : List (List ℕ)) (k : RunState) (a : Archive) (reads : ReadsWith [] a (g.content from)) where
       abbrev NewOrGone : Files → Type 0
@@ -222,10 +265,23 @@ module _ {D : Type 0} (g : Disk D) where
       new-converts asked (inr first) =
           joined g from first.synced next (Image (g.content from)) (LeavesConverted [] a) NewOrGone first.before (first.after a [] reads) (λ image left. inl (each image left)) (λ image either. elim either [
             | inl one ↦ inr (a, stays, one)
-            | inr other ↦ inr (converted Sha256 a, goes-by keeps takes itself commands converts words k a (converted Sha256 a) (inr (inr (inr (inr (inr (record { asked = asked; taken = other.0; is = refl })))))), other.1)
+            | inr other ↦ inr (converted Sha256 a, goes-by keeps takes itself commands converts words k a (converted Sha256 a) (inr (inr (inr (inr (inr (inl (record { asked = asked; taken = other.0; is = refl }))))))), other.1)
           ])
 
-      new-leaves : (job : Job) → AsksFor words job → IsOnArchive job → JobLeaves g (Some job) from next k.left k.coming → LeavesOnly g from next NewOrGone
+      module _ (address : List ℕ) (asked : AsksFor words (Fetch address)) (given : List Reply) (ahead : AreFirst given k.peer.left) where
+        new-source : (b : Archive) → (b ≡ a) ⊎ BecomesOver given a b → Goes words k a b
+        new-source b (inl same) = goes-by keeps takes itself commands converts words k a b (inl same)
+        new-source b (inr becomes) = goes-by keeps takes itself commands converts words k a b (inr (inr (inr (inr (inr (inr (record { address = address; asked = asked; given = given; first = ahead; becomes = becomes })))))))
+
+        new-fetches : RunsOrStays g from next (LeavesFetched given) → LeavesOnly g from next NewOrGone
+        new-fetches (inl only) = weaker g from next (Image (g.content from)) NewOrGone only (λ image left. inl (each image left))
+        new-fetches (inr first) =
+            joined g from first.synced next (Image (g.content from)) (LeavesFetched given [] a) NewOrGone first.before (first.after a [] reads) (λ image left. inl (each image left)) (λ image either. elim either [
+              | inl one ↦ inr (a, stays, one)
+              | inr other ↦ inr (other.0, new-source other.0 other.1, other.2)
+            ])
+
+      new-leaves : (job : Job) → AsksFor words job → IsOnArchive job → JobLeaves g (Some job) from next k.left k.coming k.peer.left → LeavesOnly g from next NewOrGone
       new-leaves Deliver asked on (sent, is, (moment, first, runs)) =
           new-runs Appends (delivering (message_of sent) moment) (goes-by keeps takes itself commands converts words k a _ (inr (inl (record { asked = asked; input = sent; told = is; at = moment; first = first; is = refl })))) runs
       new-leaves (Remove number) asked on (moment, first, runs) =
@@ -237,6 +293,7 @@ module _ {D : Type 0} (g : Disk D) where
       new-leaves Reindex asked on runs = new-syncs runs
       new-leaves Check asked on runs = new-syncs runs
       new-leaves Convert asked on runs = new-converts asked runs
+      new-leaves (Fetch address) asked on (given, ahead, runs) = new-fetches address asked given ahead runs
       new-leaves Help asked never runs = absurd never
       new-leaves Version asked never runs = absurd never
       new-leaves (Replay settings) asked never runs = absurd never
@@ -260,7 +317,7 @@ module _ {D : Type 0} (g : Disk D) where
         was-shut image left = shut image (subst (λ (x : Option Content). Image x image) (sym one.before) left)
 
         init : LeavesOnly g old made (InitLeaves config i.coming (g.content old))
-        init = job-leaves first (Init config) old made i.left i.coming asked one.crash
+        init = job-leaves first (Init config) old made i.left i.coming i.peer.left asked one.crash
 
         each : (image : Files) → Image (Some c) image → NoneOrNew config i.coming image
         each image left = none-or-new config i.coming (g.content old) image was-shut (init.each image (counts_now made (g.moment old) image init.later (subst (λ (x : Option Content). Image x image) (sym made-told) left)))
@@ -268,15 +325,15 @@ module _ {D : Type 0} (g : Disk D) where
         from-each : (image : Files) → Image (g.content from) image → NoneOrNew config i.coming image
         from-each image left = each image (subst (λ (x : Option Content). Image x image) from-told left)
 
-        did : JobLeaves g (Some job) from next k.left k.coming
-        did = job-leaves second job from next k.left k.coming asks two.crash
+        did : JobLeaves g (Some job) from next k.left k.coming k.peer.left
+        did = job-leaves second job from next k.left k.coming k.peer.left asks two.crash
 
-        by : NoneOrNew config i.coming (as_read c) → (IsShutFile (c root_name).seen × FoundNone g config i.coming second b k l from next) ⊎ FoundNew g config i.coming second job b k l from next
+        by : NoneOrNew config i.coming (as_read c) → (IsShutFile (c root_name).seen × FoundNone g config i.coming second job b k l from next) ⊎ FoundNew g config i.coming second job b k l from next
         by (inl none) = inl (
           none,
           record {
-            ended = ended-by (IsDue second) NoneDue second b k l (none-due c none k l kept second job asks on) two.ends;
-            crash = none-leaves config i.coming from next from-each c none from-told job on k.left k.coming did;
+            ended = ended-by (IsDue second) (NoneDue job) second b k l (none-due c none k l kept second job asks on) two.ends;
+            crash = none-leaves config i.coming from next from-each c none from-told job on k.left k.coming k.peer.left did;
           },
         )
         by (inr (born, is_born, (recovers, root))) =

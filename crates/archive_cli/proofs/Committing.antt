@@ -31,7 +31,7 @@ use Rattle.archive_core.specs.Engines.{unchanged-is}
 use Rattle.archive_core.proofs.Replies.{done-then, refused-then}
 use Rattle.archive_cli.specs.OpenedFiles.{CommitsIfDone, CommitsOne, CommitsOpened, OnlySettled}
 use Rattle.archive_cli.specs.declared.outcome.Outcome.{Outcome}
-use Rattle.archive_cli.specs.declared.outcome.Outcome.TheVariants.{Made, Exists, Reindexed, Checked, Converted, Unconverted, Answered, Unopened}
+use Rattle.archive_cli.specs.declared.outcome.Outcome.TheVariants.{Made, Exists, Reindexed, Checked, Converted, Unconverted, Fetched, Unfetched, Answered, Unopened}
 
 -- Each command may be answered that memory ran out.
 pub starved-answer : (command : Command) → IsForCommand command answer.NoMemory
@@ -95,6 +95,8 @@ commits-as way keeps fewer (Reindexed live) old new less commits = tt
 commits-as way keeps fewer (Checked entries live next) old new less commits = tt
 commits-as way keeps fewer (Converted entries) old new less commits = tt
 commits-as way keeps fewer (Unconverted why) old new less commits = tt
+commits-as way keeps fewer (Fetched told) old new less commits = tt
+commits-as way keeps fewer (Unfetched why) old new less commits = tt
 commits-as way keeps fewer (Unopened why) old new less commits = tt
 commits-as way keeps fewer (Answered reply) old new less commits = done-then reply (CommitsOpened (GoesOnBy way) keeps old new) (CommitsOpened (GoesOnBy way) fewer old new)
     (λ done. (done.0, done.1, record { made = done.2.made; kept = less done.0 done.2.made done.2.kept; root = done.2.root; slot = done.2.slot; rooted = done.2.rooted; settled = done.2.settled })) commits

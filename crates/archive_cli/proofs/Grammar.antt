@@ -16,7 +16,7 @@ use Rattle.arch_base.specs.declared.ids.Form.TheVariants as form
 use Rattle.archive_cli.specs.Words.{AreMakingWords, IsInit, IsReplay, AreNumberWords, IsLone, IsServe, IsServeOption, GivesServing, serve_word, IsLoad, IsJob, AsksFor, IsSetting, IsOneUpTo, EachOnce, setting_word, limit_of, slice_of, max_of, mirror_of, form_given, limits, slices, maxes, mirrors, forms, spelled, limit_in, slice_in, max_in, mirror_in, config_of}
 use Rattle.archive_cli.specs.Options.{IsServing, HoldsSettings, HoldsMore, HoldsTwo, Collects, config_by, marks}
 use Rattle.archive_cli.specs.declared.words.Job.{Job}
-use Rattle.archive_cli.specs.declared.words.Job.TheVariants.{Help, Version, Replay, Load, Init, Deliver, Remove, Purge, Edit, Reindex, Check, Convert, Serve}
+use Rattle.archive_cli.specs.declared.words.Job.TheVariants.{Help, Version, Replay, Load, Init, Deliver, Remove, Purge, Edit, Reindex, Check, Convert, Fetch, Serve}
 use Rattle.archive_cli.specs.declared.words.ServeOption.{ServeOption}
 use Rattle.archive_cli.specs.declared.words.ServeOption.TheVariants as serving
 use Rattle.archive_cli.specs.declared.words.Setting.{Setting}
@@ -285,22 +285,27 @@ same-kind Editing Removal e = absurd (apart 101 114 (codes "dit") (codes "emove"
 same-kind Editing Purging e = absurd (apart 101 112 (codes "dit") (codes "urge") (omega arith) e)
 same-kind Editing Editing e = refl
 
-no-init : (k : Numbered) → word_of k ≡ codes "init" → ⊥
+pub no-init : (k : Numbered) → word_of k ≡ codes "init" → ⊥
 no-init Removal e = remove-init e
 no-init Purging e = apart 112 105 (codes "urge") (codes "nit") (omega arith) e
 no-init Editing e = apart 101 105 (codes "dit") (codes "nit") (omega arith) e
 
-no-replay : (k : Numbered) → word_of k ≡ codes "replay" → ⊥
+pub no-replay : (k : Numbered) → word_of k ≡ codes "replay" → ⊥
 no-replay Removal e = remove-replay e
 no-replay Purging e = apart 112 114 (codes "urge") (codes "eplay") (omega arith) e
 no-replay Editing e = apart 101 114 (codes "dit") (codes "eplay") (omega arith) e
 
-no-serve : (k : Numbered) → word_of k ≡ codes "serve" → ⊥
+pub no-serve : (k : Numbered) → word_of k ≡ codes "serve" → ⊥
 no-serve Removal e = apart 114 115 (codes "emove") (codes "erve") (omega arith) e
 no-serve Purging e = apart 112 115 (codes "urge") (codes "erve") (omega arith) e
 no-serve Editing e = apart 101 115 (codes "dit") (codes "erve") (omega arith) e
 
-no-load : (k : Numbered) → word_of k ≡ codes "load" → ⊥
+pub no-fetch : (k : Numbered) → word_of k ≡ codes "fetch" → ⊥
+no-fetch Removal e = apart 114 102 (codes "emove") (codes "etch") (omega arith) e
+no-fetch Purging e = apart 112 102 (codes "urge") (codes "etch") (omega arith) e
+no-fetch Editing e = apart 101 102 (codes "dit") (codes "etch") (omega arith) e
+
+pub no-load : (k : Numbered) → word_of k ≡ codes "load" → ⊥
 no-load Removal e = apart 114 108 (codes "emove") (codes "oad") (omega arith) e
 no-load Purging e = apart 112 108 (codes "urge") (codes "oad") (omega arith) e
 no-load Editing e = apart 101 108 (codes "dit") (codes "oad") (omega arith) e
@@ -323,6 +328,7 @@ module _ (k : Numbered) (word : List ℕ) (more : List (List ℕ)) where
   numbered_only (Init config) i = absurd (no-init k (head-word (word_of k) (codes "init") (word ∷ more) i.after i.is))
   numbered_only (Replay config) r = absurd (no-replay k (head-word (word_of k) (codes "replay") (word ∷ more) r.after r.is))
   numbered_only (Load count seed) l = absurd (no-load k (head-word (word_of k) (codes "load") (word ∷ more) (decimal count ∷ decimal seed ∷ []) l.is))
+  numbered_only (Fetch address) f = absurd (no-fetch k (head-word (word_of k) (codes "fetch") (word ∷ more) f.options f.is))
   numbered_only (Serve turns port) s = absurd (no-serve k (head-word (word_of k) (codes "serve") (word ∷ more) (map serve_word s.options) s.is))
 
   -- A number alone after it.
@@ -364,6 +370,9 @@ edit_named word after found is asked = named word (codes "edit") after found is 
 pub serve_named : (word : List ℕ) (after : List (List ℕ)) (found : Option Job) → word ≡ codes "serve" → IsJob (codes "serve" ∷ after) found → IsJob (word ∷ after) found
 serve_named word after found is asked = named word (codes "serve") after found is asked
 
+pub fetch_named : (word : List ℕ) (after : List (List ℕ)) (found : Option Job) → word ≡ codes "fetch" → IsJob (codes "fetch" ∷ after) found → IsJob (word ∷ after) found
+fetch_named word after found is asked = named word (codes "fetch") after found is asked
+
 pub load_named : (word : List ℕ) (after : List (List ℕ)) (found : Option Job) → word ≡ codes "load" → IsJob (codes "load" ∷ after) found → IsJob (word ∷ after) found
 load_named word after found is asked = named word (codes "load") after found is asked
 
@@ -373,36 +382,38 @@ module _ (word name : List ℕ) (options : List (List ℕ)) where
   after_word command after settings config is m = subst (λ ws. AreMakingWords ws settings config) (cc is) m
 
   -- Words that make no archive, and whose first isn't that of another job, ask for no job.
-  pub not_made : word ≢ codes "remove" → word ≢ codes "purge" → word ≢ codes "edit" → word ≢ codes "load" → word ≢ codes "serve" → ((settings : List Setting) (config : Config) → AreMakingWords (name ∷ options) settings config → ⊥) → (job : Job) → AsksFor (word ∷ name ∷ options) job → ⊥
-  not_made o x y z v h Help e = cc e
-  not_made o x y z v h Version e = cc e
-  not_made o x y z v h Deliver e = cc e
-  not_made o x y z v h Reindex e = cc e
-  not_made o x y z v h Check e = cc e
-  not_made o x y z v h Convert e = cc e
-  not_made o x y z v h (Remove number) r = o (cc r.is)
-  not_made o x y z v h (Purge number) r = x (cc r.is)
-  not_made o x y z v h (Edit number) r = y (cc r.is)
-  not_made o x y z v h (Init config) i = h i.settings config (after_word (codes "init") i.after i.settings config i.is i.made)
-  not_made o x y z v h (Replay config) r = h r.settings config (after_word (codes "replay") r.after r.settings config r.is r.made)
-  not_made o x y z v h (Load count seed) l = z (cc l.is)
-  not_made o x y z v h (Serve turns port) s = v (cc s.is)
+  pub not_made : word ≢ codes "remove" → word ≢ codes "purge" → word ≢ codes "edit" → word ≢ codes "load" → word ≢ codes "serve" → word ≢ codes "fetch" → ((settings : List Setting) (config : Config) → AreMakingWords (name ∷ options) settings config → ⊥) → (job : Job) → AsksFor (word ∷ name ∷ options) job → ⊥
+  not_made o x y z v w h Help e = cc e
+  not_made o x y z v w h Version e = cc e
+  not_made o x y z v w h Deliver e = cc e
+  not_made o x y z v w h Reindex e = cc e
+  not_made o x y z v w h Check e = cc e
+  not_made o x y z v w h Convert e = cc e
+  not_made o x y z v w h (Remove number) r = o (cc r.is)
+  not_made o x y z v w h (Purge number) r = x (cc r.is)
+  not_made o x y z v w h (Edit number) r = y (cc r.is)
+  not_made o x y z v w h (Init config) i = h i.settings config (after_word (codes "init") i.after i.settings config i.is i.made)
+  not_made o x y z v w h (Replay config) r = h r.settings config (after_word (codes "replay") r.after r.settings config r.is r.made)
+  not_made o x y z v w h (Load count seed) l = z (cc l.is)
+  not_made o x y z v w h (Fetch address) f = w (cc f.is)
+  not_made o x y z v w h (Serve turns port) s = v (cc s.is)
 
   -- Words whose first is another ask for no job.
-  pub other_word : word ≢ codes "remove" → word ≢ codes "purge" → word ≢ codes "edit" → word ≢ codes "load" → word ≢ codes "init" → word ≢ codes "replay" → word ≢ codes "serve" → (job : Job) → AsksFor (word ∷ name ∷ options) job → ⊥
-  other_word o x y z p q v Help e = cc e
-  other_word o x y z p q v Version e = cc e
-  other_word o x y z p q v Deliver e = cc e
-  other_word o x y z p q v Reindex e = cc e
-  other_word o x y z p q v Check e = cc e
-  other_word o x y z p q v Convert e = cc e
-  other_word o x y z p q v (Remove number) r = o (cc r.is)
-  other_word o x y z p q v (Purge number) r = x (cc r.is)
-  other_word o x y z p q v (Edit number) r = y (cc r.is)
-  other_word o x y z p q v (Init config) i = p (cc i.is)
-  other_word o x y z p q v (Replay config) r = q (cc r.is)
-  other_word o x y z p q v (Load count seed) l = z (cc l.is)
-  other_word o x y z p q v (Serve turns port) s = v (cc s.is)
+  pub other_word : word ≢ codes "remove" → word ≢ codes "purge" → word ≢ codes "edit" → word ≢ codes "load" → word ≢ codes "init" → word ≢ codes "replay" → word ≢ codes "serve" → word ≢ codes "fetch" → (job : Job) → AsksFor (word ∷ name ∷ options) job → ⊥
+  other_word o x y z p q v w Help e = cc e
+  other_word o x y z p q v w Version e = cc e
+  other_word o x y z p q v w Deliver e = cc e
+  other_word o x y z p q v w Reindex e = cc e
+  other_word o x y z p q v w Check e = cc e
+  other_word o x y z p q v w Convert e = cc e
+  other_word o x y z p q v w (Remove number) r = o (cc r.is)
+  other_word o x y z p q v w (Purge number) r = x (cc r.is)
+  other_word o x y z p q v w (Edit number) r = y (cc r.is)
+  other_word o x y z p q v w (Init config) i = p (cc i.is)
+  other_word o x y z p q v w (Replay config) r = q (cc r.is)
+  other_word o x y z p q v w (Load count seed) l = z (cc l.is)
+  other_word o x y z p q v w (Fetch address) f = w (cc f.is)
+  other_word o x y z p q v w (Serve turns port) s = v (cc s.is)
 
   module _ (config : Config) (is : word ≡ codes "replay") (made : (settings : List Setting) × AreMakingWords (name ∷ options) settings config) where
     -- `replay` and an archive that is no mirror.
@@ -428,6 +439,7 @@ module _ (word name : List ℕ) (options : List (List ℕ)) where
     not_replayed e (Edit number) r = no-replay Editing (sym (head-word word (codes "edit") (name ∷ options) (decimal number ∷ []) r.is) ∙ is)
     not_replayed e (Load count seed) l = apart 108 114 (codes "oad") (codes "eplay") (omega arith) (cc (l.is, is))
     not_replayed e (Init other) i = apart 105 114 (codes "nit") (codes "eplay") (omega arith) (cc (i.is, is))
+    not_replayed e (Fetch address) f = apart 102 114 (codes "etch") (codes "eplay") (omega arith) (cc (f.is, is))
     not_replayed e (Serve turns port) s = apart 115 114 (codes "erve") (codes "eplay") (omega arith) (cc (s.is, is))
     not_replayed e (Replay other) r =
         let found : AreMakingWords (name ∷ options) r.settings other = after_word (codes "replay") r.after r.settings other r.is r.made in
@@ -540,6 +552,7 @@ serve_only after Convert e = absurd (apart 115 99 (codes "erve") (codes "onvert"
 serve_only after (Remove number) r = absurd (no-serve Removal (sym (head-word (codes "serve") (codes "remove") after (decimal number ∷ []) r.is)))
 serve_only after (Purge number) r = absurd (no-serve Purging (sym (head-word (codes "serve") (codes "purge") after (decimal number ∷ []) r.is)))
 serve_only after (Edit number) r = absurd (no-serve Editing (sym (head-word (codes "serve") (codes "edit") after (decimal number ∷ []) r.is)))
+serve_only after (Fetch address) f = absurd (apart 115 102 (codes "erve") (codes "etch") (omega arith) (head-word (codes "serve") (codes "fetch") after f.options f.is))
 serve_only after (Load count seed) l = absurd (apart 115 108 (codes "erve") (codes "oad") (omega arith) (head-word (codes "serve") (codes "load") after (decimal count ∷ decimal seed ∷ []) l.is))
 serve_only after (Init config) i = absurd (apart 115 105 (codes "erve") (codes "nit") (omega arith) (head-word (codes "serve") (codes "init") after i.after i.is))
 serve_only after (Replay config) r = absurd (apart 115 114 (codes "erve") (codes "eplay") (omega arith) (head-word (codes "serve") (codes "replay") after r.after r.is))
@@ -627,4 +640,5 @@ load_only after (Purge number) r = absurd (no-load Purging (sym (head-word (code
 load_only after (Edit number) r = absurd (no-load Editing (sym (head-word (codes "load") (codes "edit") after (decimal number ∷ []) r.is)))
 load_only after (Init config) i = absurd (apart 108 105 (codes "oad") (codes "nit") (omega arith) (head-word (codes "load") (codes "init") after i.after i.is))
 load_only after (Replay config) r = absurd (apart 108 114 (codes "oad") (codes "eplay") (omega arith) (head-word (codes "load") (codes "replay") after r.after r.is))
+load_only after (Fetch address) f = absurd (apart 108 102 (codes "oad") (codes "etch") (omega arith) (head-word (codes "load") (codes "fetch") after f.options f.is))
 load_only after (Serve turns port) s = absurd (apart 108 115 (codes "oad") (codes "erve") (omega arith) (head-word (codes "load") (codes "serve") after (map serve_word s.options) s.is))

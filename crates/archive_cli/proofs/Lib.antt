@@ -1,5 +1,6 @@
 pub mod Grammar
 pub mod LoadWords
+pub mod FetchWords
 pub mod OneJob
 pub mod OfJob
 pub mod LoadLines
@@ -8,6 +9,7 @@ pub mod Leaving
 pub mod OnDisk
 pub mod Committing
 pub mod ConvertedDisk
+pub mod FetchedDisk
 pub mod Rows
 pub mod AfterInit
 pub mod PlayedEvents

@@ -1,7 +1,7 @@
 -- A run of words ends in exactly the ways of the job that they ask for.
 use Rattle.std.proofs.Common.{◌≡◌, ◌⊎◌, inl, inr, ℕ, List, Option, Some, None, codes, subst}
 use Rattle.answer_lines.specs.Lines.{whole_line}
-use Rattle.archive_cli.specs.Jobs.{DueRule, StopRule, JobRan, RanJob, RunsOfJob, NeverStops, InputStops, ClockStops, EitherStops, TextDue, ReplayDue, LoadDue, InitDue, DeliverDue, RemoveDue, PurgeDue, EditDue, ReindexDue, CheckDue, ConvertDue, ServeDue}
+use Rattle.archive_cli.specs.Jobs.{DueRule, StopRule, JobRan, RanJob, RunsOfJob, NeverStops, InputStops, ClockStops, EitherStops, TextDue, ReplayDue, LoadDue, InitDue, DeliverDue, RemoveDue, PurgeDue, EditDue, ReindexDue, CheckDue, ConvertDue, FetchDue, ServeDue}
 use Rattle.archive_cli.specs.Program.{RunState, IsPrinted, OutputFailed, InputFailed, ClockFailed, RanBy, RanTo, IsDue, RunEnds, DeliverRunsOut, AsksForMessage, AsksForInput, AsksForMoment}
 use Rattle.archive_cli.specs.Statuses.{code_of}
 use Rattle.archive_cli.specs.Words.{IsJob}
@@ -9,7 +9,7 @@ use Rattle.archive_cli.specs.declared.status.Status.{Status}
 use Rattle.archive_cli.specs.declared.status.Status.TheVariants as exit
 use Rattle.archive_cli.specs.declared.texts.TheConstants.{HELP, VERSION}
 use Rattle.archive_cli.specs.declared.words.Job.{Job}
-use Rattle.archive_cli.specs.declared.words.Job.TheVariants.{Help, Version, Replay, Load, Init, Deliver, Remove, Purge, Edit, Reindex, Check, Convert, Serve}
+use Rattle.archive_cli.specs.declared.words.Job.TheVariants.{Help, Version, Replay, Load, Init, Deliver, Remove, Purge, Edit, Reindex, Check, Convert, Fetch, Serve}
 use Rattle.archive_cli.proofs.OneJob.{same-asked}
 
 -- What is due by one rule is due by another.
@@ -53,6 +53,7 @@ due_of (Some (Edit number)) = EditDue number
 due_of (Some Reindex) = ReindexDue
 due_of (Some Check) = CheckDue
 due_of (Some Convert) = ConvertDue
+due_of (Some (Fetch address)) = FetchDue
 due_of (Some (Serve turns port)) = ServeDue
 
 -- How it may stop.
@@ -70,6 +71,7 @@ stops_of (Some (Edit number)) = EitherStops
 stops_of (Some Reindex) = NeverStops
 stops_of (Some Check) = NeverStops
 stops_of (Some Convert) = NeverStops
+stops_of (Some (Fetch address)) = NeverStops
 stops_of (Some (Serve turns port)) = NeverStops
 
 -- What a job ends with is due of it.
@@ -87,6 +89,7 @@ ends-due (Some (Edit number)) input i j s printed e = inl e
 ends-due (Some Reindex) input i j s printed e = e
 ends-due (Some Check) input i j s printed e = e
 ends-due (Some Convert) input i j s printed e = e
+ends-due (Some (Fetch address)) input i j s printed e = e
 ends-due (Some (Serve turns port)) input i j s printed e = e
 
 -- Words ask for a job, or for none.
@@ -138,6 +141,7 @@ due-words words (Some (Edit number)) asked input i j s printed (inr (status, tex
 due-words words (Some Reindex) asked input i j s printed e = inl (record { job = Some Reindex; asked = asked; ends = e })
 due-words words (Some Check) asked input i j s printed e = inl (record { job = Some Check; asked = asked; ends = e })
 due-words words (Some Convert) asked input i j s printed e = inl (record { job = Some Convert; asked = asked; ends = e })
+due-words words (Some (Fetch address)) asked input i j s printed e = inl (record { job = Some (Fetch address); asked = asked; ends = e })
 due-words words (Some (Serve turns port)) asked input i j s printed e = inl (record { job = Some (Serve turns port); asked = asked; ends = e })
 
 failed-input : (words : List (List ℕ)) (s : Status) (i j : RunState) → AsksForInput words → InputStops s i j → InputFailed words s i j
@@ -163,6 +167,7 @@ stop-words words (Some (Edit number)) asked s i j (inr stop) = inr (failed-clock
 stop-words words (Some Reindex) asked s i j never = absurd never
 stop-words words (Some Check) asked s i j never = absurd never
 stop-words words (Some Convert) asked s i j never = absurd never
+stop-words words (Some (Fetch address)) asked s i j never = absurd never
 stop-words words (Some (Serve turns port)) asked s i j never = absurd never
 
 -- The table of jobs, by what is due of each and how it may stop.
@@ -180,6 +185,7 @@ named (Some (Edit number)) code i j p = p
 named (Some Reindex) code i j p = p
 named (Some Check) code i j p = p
 named (Some Convert) code i j p = p
+named (Some (Fetch address)) code i j p = p
 named (Some (Serve turns port)) code i j p = p
 
 unnamed : (job : Option Job) (code : ℕ) (i j : RunState) → RanJob job code i j → JobRan (due_of job) (stops_of job) code i j
@@ -196,6 +202,7 @@ unnamed (Some (Edit number)) code i j p = p
 unnamed (Some Reindex) code i j p = p
 unnamed (Some Check) code i j p = p
 unnamed (Some Convert) code i j p = p
+unnamed (Some (Fetch address)) code i j p = p
 unnamed (Some (Serve turns port)) code i j p = p
 
 ran-of-job : (words : List (List ℕ)) (job : Option Job) → IsJob words job → (code : ℕ) (i j : RunState) → RanTo words code i j → RanJob job code i j

@@ -35,9 +35,11 @@ use Rattle.archive_core.specs.Engines.{RecoversOrBare, AllRecoverOrBare}
 use Rattle.archive_core.specs.Openings.{LeavesKindly}
 use Rattle.archive_core.proofs.Stored.{stored-length}
 use Rattle.archive_core.proofs.Engines.{all_or_bare, either_of, left_is, recovers_either, stands_for, with_cache}
+use Rattle.fetch_course.specs.declared.answer.FetchAnswer.{FetchAnswer}
+use Rattle.fetch_course.specs.declared.answer.FetchAnswer.TheVariants as fetching
 use Rattle.archive_cli.specs.DiskCommands.{MakesDisk, conversion_outcome, unmade, IsFault, IsOpenedAs, IsReadAs, TakesTo, ReindexesTo, ChecksTo, StandsAs, StaysUnopened, CommandTakes, RunsOrStays, LeavesEither}
 use Rattle.archive_cli.specs.declared.outcome.Outcome.{Outcome}
-use Rattle.archive_cli.specs.declared.outcome.Outcome.TheVariants.{Made, Reindexed, Checked, Answered, Unopened}
+use Rattle.archive_cli.specs.declared.outcome.Outcome.TheVariants.{Made, Reindexed, Checked, Fetched, Unfetched, Answered, Unopened}
 
 -- An archive was made.
 pub made-makes : (config : Config) (name : List ℕ) (v : StoreState) (old new : Option Content) → name ≡ config.name → WhereTold (λ (k : Content). IsShutFile (k root_name).seen) old → WhereTold (IsDiskOf v (empty_archive config)) new
@@ -69,11 +71,15 @@ unmade-cause before now why o is rose = record { later = rose.later; failed = λ
     of_why : (w : InitRefusal) → IsFault (unmade w) → not_made w ≡ not_made making.DiskFault
     of_why making.Exists (inl other) = absurd (cc other)
     of_why making.Exists (inr (inl other)) = absurd (cc other)
-    of_why making.Exists (inr (inr other)) = absurd (cc other)
+    of_why making.Exists (inr (inr (inl other))) = absurd (cc other)
+    of_why making.Exists (inr (inr (inr (inl other)))) = absurd (cc other)
+    of_why making.Exists (inr (inr (inr (inr other)))) = absurd (cc other)
     of_why making.DiskFault fault = refl
     of_why making.NoMemory (inl other) = absurd (cc other)
     of_why making.NoMemory (inr (inl other)) = absurd (cc other)
-    of_why making.NoMemory (inr (inr other)) = absurd (cc other)
+    of_why making.NoMemory (inr (inr (inl other))) = absurd (cc other)
+    of_why making.NoMemory (inr (inr (inr (inl other)))) = absurd (cc other)
+    of_why making.NoMemory (inr (inr (inr (inr other)))) = absurd (cc other)
 
 -- An archive was made, and the disk didn't fail.
 pub made-cause : (before now : ℕ) (name : List ℕ) → now ≡ before → RoseIf (IsFault (Made name)) before now
@@ -82,7 +88,9 @@ made-cause before now name same = record { later = omega (arith, same); failed =
     none : IsFault (Made name) → Rose before now
     none (inl other) = absurd (cc other)
     none (inr (inl other)) = absurd (cc other)
-    none (inr (inr other)) = absurd (cc other)
+    none (inr (inr (inl other))) = absurd (cc other)
+    none (inr (inr (inr (inl other)))) = absurd (cc other)
+    none (inr (inr (inr (inr other)))) = absurd (cc other)
 
 -- What is kept beside the files was built anew, and the disk didn't fail.
 pub reindexed-cause : (before now live : ℕ) → now ≡ before → RoseIf (IsFault (Reindexed live)) before now
@@ -91,7 +99,9 @@ reindexed-cause before now live same = record { later = omega (arith, same); fai
     none : IsFault (Reindexed live) → Rose before now
     none (inl other) = absurd (cc other)
     none (inr (inl other)) = absurd (cc other)
-    none (inr (inr other)) = absurd (cc other)
+    none (inr (inr (inl other))) = absurd (cc other)
+    none (inr (inr (inr (inl other)))) = absurd (cc other)
+    none (inr (inr (inr (inr other)))) = absurd (cc other)
 
 -- It was counted, and the disk didn't fail.
 pub checked-cause : (before now entries live next : ℕ) → now ≡ before → RoseIf (IsFault (Checked entries live next)) before now
@@ -100,7 +110,9 @@ checked-cause before now entries live next same = record { later = omega (arith,
     none : IsFault (Checked entries live next) → Rose before now
     none (inl other) = absurd (cc other)
     none (inr (inl other)) = absurd (cc other)
-    none (inr (inr other)) = absurd (cc other)
+    none (inr (inr (inl other))) = absurd (cc other)
+    none (inr (inr (inr (inl other)))) = absurd (cc other)
+    none (inr (inr (inr (inr other)))) = absurd (cc other)
 
 -- It wasn't opened.
 abbrev not_opened : OpenRefusal → Result StoreState OpenRefusal
@@ -113,13 +125,19 @@ refused-cause before now why rose = record { later = rose.later; failed = λ fau
     of_why refusal.DiskFault fault = refl
     of_why refusal.NoMemory (inl other) = absurd (cc other)
     of_why refusal.NoMemory (inr (inl other)) = absurd (cc other)
-    of_why refusal.NoMemory (inr (inr other)) = absurd (cc other)
+    of_why refusal.NoMemory (inr (inr (inl other))) = absurd (cc other)
+    of_why refusal.NoMemory (inr (inr (inr (inl other)))) = absurd (cc other)
+    of_why refusal.NoMemory (inr (inr (inr (inr other)))) = absurd (cc other)
     of_why refusal.NoArchive (inl other) = absurd (cc other)
     of_why refusal.NoArchive (inr (inl other)) = absurd (cc other)
-    of_why refusal.NoArchive (inr (inr other)) = absurd (cc other)
+    of_why refusal.NoArchive (inr (inr (inl other))) = absurd (cc other)
+    of_why refusal.NoArchive (inr (inr (inr (inl other)))) = absurd (cc other)
+    of_why refusal.NoArchive (inr (inr (inr (inr other)))) = absurd (cc other)
     of_why (refusal.Damaged file at) (inl other) = absurd (cc other)
     of_why (refusal.Damaged file at) (inr (inl other)) = absurd (cc other)
-    of_why (refusal.Damaged file at) (inr (inr other)) = absurd (cc other)
+    of_why (refusal.Damaged file at) (inr (inr (inl other))) = absurd (cc other)
+    of_why (refusal.Damaged file at) (inr (inr (inr (inl other)))) = absurd (cc other)
+    of_why (refusal.Damaged file at) (inr (inr (inr (inr other)))) = absurd (cc other)
 
     to_why : (w : OpenRefusal) → not_opened w ≡ not_opened refusal.DiskFault → IsFault (Unopened w)
     to_why refusal.DiskFault same = inr (inl refl)
@@ -138,23 +156,59 @@ answered-cause before mid now reply same rose = record {
     of_answer : IsFault (Answered reply) → reply ≡ answer.DiskFault
     of_answer (inl same_outcome) = cc same_outcome
     of_answer (inr (inl other)) = absurd (cc other)
-    of_answer (inr (inr other)) = absurd (cc other)
+    of_answer (inr (inr (inl other))) = absurd (cc other)
+    of_answer (inr (inr (inr (inl other)))) = absurd (cc other)
+    of_answer (inr (inr (inr (inr other)))) = absurd (cc other)
 
 -- How a conversion ended is told by its outcome.
 conversion-fault : (entries : ℕ) (result : Result (Unit {0}) ConvertRefusal) → IsFault (conversion_outcome entries result) → result ≡ Err converting.DiskFault
 conversion-fault entries (Ok done) (inl other) = absurd (cc other)
 conversion-fault entries (Ok done) (inr (inl other)) = absurd (cc other)
-conversion-fault entries (Ok done) (inr (inr other)) = absurd (cc other)
+conversion-fault entries (Ok done) (inr (inr (inl other))) = absurd (cc other)
+conversion-fault entries (Ok done) (inr (inr (inr (inl other)))) = absurd (cc other)
+conversion-fault entries (Ok done) (inr (inr (inr (inr other)))) = absurd (cc other)
 conversion-fault entries (Err why) (inl other) = absurd (cc other)
 conversion-fault entries (Err why) (inr (inl other)) = absurd (cc other)
-conversion-fault entries (Err why) (inr (inr same)) = let is : why ≡ converting.DiskFault = cc same in ap (λ (w : ConvertRefusal). Err w) is
+conversion-fault entries (Err why) (inr (inr (inr (inl other)))) = absurd (cc other)
+conversion-fault entries (Err why) (inr (inr (inr (inr other)))) = absurd (cc other)
+conversion-fault entries (Err why) (inr (inr (inl same))) = let is : why ≡ converting.DiskFault = cc same in ap (λ (w : ConvertRefusal). Err w) is
 
 pub converted-cause : (before mid now entries : ℕ) (result : Result (Unit {0}) ConvertRefusal) (o : Outcome) → o ≡ conversion_outcome entries result → mid ≡ before → RoseIf (result ≡ Err converting.DiskFault) mid now → RoseIf (IsFault o) before now
 converted-cause before mid now entries result o is same rose = record {
   later = omega (arith, same, rose.later);
   failed = λ fault. (let risen : Rose mid now = rose.failed (conversion-fault entries result (subst IsFault is fault)) in omega (arith, same, risen));
-  kept = λ free. rose.kept (λ fault. free (inr (inr (is ∙ ap (conversion_outcome entries) fault)))) ∙ same;
+  kept = λ free. rose.kept (λ fault. free (inr (inr (inl (is ∙ ap (conversion_outcome entries) fault))))) ∙ same;
 }
+
+-- A fetch was answered on what was opened.
+pub fetched-cause : (before mid now : ℕ) (told : FetchAnswer) → mid ≡ before → RoseIf (told ≡ fetching.DiskFault) mid now → RoseIf (IsFault (Fetched told)) before now
+fetched-cause before mid now told same rose = record {
+  later = omega (arith, same, rose.later);
+  failed = λ fault. let risen : Rose mid now = rose.failed (of_told fault) in omega (arith, same, risen);
+  kept = λ free. rose.kept (λ is. free (inr (inr (inr (inl (ap Fetched is)))))) ∙ same;
+}
+  where
+    of_told : IsFault (Fetched told) → told ≡ fetching.DiskFault
+    of_told (inl other) = absurd (cc other)
+    of_told (inr (inl other)) = absurd (cc other)
+    of_told (inr (inr (inl other))) = absurd (cc other)
+    of_told (inr (inr (inr (inl is)))) = cc is
+    of_told (inr (inr (inr (inr other)))) = absurd (cc other)
+
+-- It wasn't opened for a fetch.
+pub unfetched-cause : (before now : ℕ) (why : OpenRefusal) → RoseIf (not_opened why ≡ not_opened refusal.DiskFault) before now → RoseIf (IsFault (Unfetched why)) before now
+unfetched-cause before now why rose = record {
+  later = rose.later;
+  failed = λ fault. rose.failed (ap not_opened (of_why fault));
+  kept = λ free. rose.kept (λ same. free (inr (inr (inr (inr (ap Unfetched (cc same)))))));
+}
+  where
+    of_why : IsFault (Unfetched why) → why ≡ refusal.DiskFault
+    of_why (inl other) = absurd (cc other)
+    of_why (inr (inl other)) = absurd (cc other)
+    of_why (inr (inr (inl other))) = absurd (cc other)
+    of_why (inr (inr (inr (inl other)))) = absurd (cc other)
+    of_why (inr (inr (inr (inr is)))) = cc is
 
 -- What a refusal to open leaves of an archive that a command was for.
 pub unopened-takes : (way : WriteKind) (cache : List ℕ) (a : Archive) (wanted : Done) (why : OpenRefusal) (old new : Option Content) → ReadsWith cache a old → IsWant why → LeavesKindly why old new → TakesTo way cache a wanted (Unopened why) new

@@ -4,8 +4,9 @@ use Rattle.std.proofs.lemmas.Fmt.{decimal_injective}
 use Rattle.arch_base.specs.declared.config.Config.{Config}
 use Rattle.archive_cli.specs.Words.{AreMakingWords, AreNumberWords, IsLoad, IsJob, AsksFor, config_of, setting_word, serve_word}
 use Rattle.archive_cli.specs.declared.words.Job.{Job}
-use Rattle.archive_cli.specs.declared.words.Job.TheVariants.{Help, Version, Replay, Load, Init, Deliver, Remove, Purge, Edit, Reindex, Check, Convert, Serve}
+use Rattle.archive_cli.specs.declared.words.Job.TheVariants.{Help, Version, Replay, Load, Init, Deliver, Remove, Purge, Edit, Reindex, Check, Convert, Fetch, Serve}
 use Rattle.archive_cli.specs.declared.words.Setting.{Setting}
+use Rattle.archive_cli.proofs.FetchWords.{same-peer}
 use Rattle.archive_cli.proofs.Grammar.{head-word, tail-words, same_made, same-serve}
 
 -- The first word of each job.
@@ -22,6 +23,7 @@ first_word (Edit number) = codes "edit"
 first_word Reindex = codes "reindex"
 first_word Check = codes "check"
 first_word Convert = codes "convert"
+first_word (Fetch address) = codes "fetch"
 first_word (Serve turns port) = codes "serve"
 
 -- Its first byte and its third tell the job.
@@ -42,6 +44,7 @@ begins words (Edit number) r = (decimal number ∷ [], r.is)
 begins words Reindex e = ([], e)
 begins words Check e = ([], e)
 begins words Convert e = ([], e)
+begins words (Fetch address) f = (f.options, f.is)
 begins words (Serve turns port) s = (map serve_word s.options, s.is)
 
 same-first : (words : List (List ℕ)) (a b : Job) → AsksFor words a → AsksFor words b → first_word a ≡ first_word b
@@ -88,6 +91,7 @@ same-job words (Load c s) (Load d t) x y = let is = same-load words c s d t x y 
 same-job words (Remove m) (Remove n) x y = ap Remove (same-number (codes "remove") words m n x y)
 same-job words (Purge m) (Purge n) x y = ap Purge (same-number (codes "purge") words m n x y)
 same-job words (Edit m) (Edit n) x y = ap Edit (same-number (codes "edit") words m n x y)
+same-job words (Fetch a) (Fetch b) x y = ap Fetch (same-peer words a b x y)
 same-job words (Serve t p) (Serve u q) x y = let is = same-serve words t p u q x y in (λ i. Serve (is.0 i) (is.1 i))
 same-job words a b x y =
     let same : mark (first_word a) ≡ mark (first_word b) = ap mark (same-first words a b x y) in

@@ -19,12 +19,16 @@ use Rattle.archive_cli.specs.Words.{IsJob, AsksFor}
 use Rattle.archive_cli.specs.Turns.{Transcript}
 use Rattle.archive_cli.specs.Serving.{ServeRun, Shut, run_line, run_status}
 use Rattle.arch_model.specs.declared.opening.OpenRefusal.TheVariants as opening
-use Rattle.arch_base.specs.Counts.{Rose}
+use Rattle.arch_base.specs.Counts.{Rose, RoseIf}
+use Rattle.edge_io.specs.declared.peer.Reply.{Reply}
+use Rattle.fetch_course.specs.declared.answer.FetchAnswer.TheVariants as fetching
+use Rattle.archive_cli.specs.Fetches.{FetchActs}
+use Rattle.archive_cli.specs.Peers.{PeerState, PeerGives, no_peer}
 use Rattle.disk_model.specs.Disk.{Content}
 use Rattle.edge_io.specs.Coming.{Moments, IsFirstMoment, after_first}
 use Rattle.archive_cli.specs.Outcomes.{outcome_line, status_of}
 use Rattle.archive_cli.specs.declared.outcome.Outcome.{Outcome}
-use Rattle.archive_cli.specs.declared.outcome.Outcome.TheVariants.{Made, Exists, Reindexed, Checked, Converted, Unconverted, Answered, Unopened}
+use Rattle.archive_cli.specs.declared.outcome.Outcome.TheVariants.{Made, Exists, Reindexed, Checked, Converted, Unconverted, Fetched, Unfetched, Answered, Unopened}
 use Rattle.archive_cli.specs.Program.{RunState, all_edges, NoneFailed, JobActs, JobEnds, InitActs, CommandActs, MessageActs, putting, putting_answers, putting_files, putting_way, AsksForMessage, AsksForCommand, ReindexActs, CheckActs, ConvertActs, PlaysPart, IsInput, IsDue, unasked, RunEnds, Ran, input_limit, message_of, TookAtMost}
 use Rattle.archive_cli.specs.Printing.{Printed, Exactly, IsLoadDue, IsReplayDue, Replayed, IsPieceRead, JobDone, InputDone, IsInputUnread}
 use Rattle.archive_cli.specs.declared.status.Status.{Status}
@@ -32,7 +36,7 @@ use Rattle.archive_cli.specs.declared.status.Status.TheVariants as exit
 use Rattle.archive_cli.specs.declared.reading.InputRefusal.{InputRefusal}
 use Rattle.archive_cli.specs.declared.reading.InputRefusal.TheVariants.{Fault, TooLong, NoMemory}
 use Rattle.archive_cli.specs.declared.words.Job.{Job}
-use Rattle.archive_cli.specs.declared.words.Job.TheVariants.{Replay, Load, Init, Deliver, Edit, Reindex, Check, Convert, Serve}
+use Rattle.archive_cli.specs.declared.words.Job.TheVariants.{Replay, Load, Init, Deliver, Edit, Reindex, Check, Convert, Fetch, Serve}
 
 module _ (out : Option (List ℕ)) (lost : ℕ) (out' : Option (List ℕ)) (lost' : ℕ) where
   -- What is due by one rule is due by another.
@@ -180,6 +184,14 @@ ran-converted words status i j o asked acts p =
     ran-printed words given.0 status i j (Exactly (whole_line (outcome_line o)) (status_of o)) given.1
     (λ s printed e. inl (record { job = Some Convert; asked = asked; ends = record { outcome = o; acts = acts; status_is = e.status_is; printed_is = e.words_is } })) p
 
+-- A fetch is a run.
+pub ran-fetched : (words : List (List ℕ)) (address : List ℕ) (status : Status) (i j : RunState) (o : Outcome) (given : List Reply) (put : List (List ℕ)) → AsksFor words (Fetch address) → PeerGives i.peer j.peer given put → JobActs (FetchActs given put) unasked i j o → RoseIf (o ≡ Fetched fetching.PeerFault) i.peer.faults j.peer.faults
+    → Printed (Exactly (whole_line (outcome_line o)) (status_of o)) status i.taken i.lost j.taken j.lost → Ran words status i j
+ran-fetched words address status i j o given put asked gave acts cause p =
+    let left = some-input i.left in
+    ran-printed words left.0 status i j (Exactly (whole_line (outcome_line o)) (status_of o)) left.1
+    (λ s printed e. inl (record { job = Some (Fetch address); asked = asked; ends = record { given = given; put = put; gave = gave; ends = record { outcome = o; acts = acts; status_is = e.status_is; printed_is = e.words_is }; cause = cause } })) p
+
 -- Serving is a run.
 pub ran-served : (words : List (List ℕ)) (turns port : ℕ) (run : ServeRun) (status : Status) (i j : RunState) → AsksFor words (Serve turns port) → (run ≡ Shut opening.DiskFault → Rose i.broken j.broken) → j.unread ≡ i.unread → j.missed ≡ i.missed → j.coming ≡ i.coming
     → Printed (Exactly (run_line run) (run_status run)) status i.taken i.lost j.taken j.lost → Ran words status i j
@@ -219,25 +231,45 @@ message-as place bytes input way keeps may wanted way_is files answers is front 
     reply (Checked entries live next) never = absurd never
     reply (Converted entries) never = absurd never
     reply (Unconverted why) never = absurd never
+    reply (Fetched told) never = absurd never
+    reply (Unfetched why) never = absurd never
     reply (Answered r) has = answers r has
     reply (Unopened why) has = tt
 
     answered : CommandActs (putting_way place) keeps may (putting place (message_of input)) moment old new o → MessageActs place (message_of input) moment old new o
     answered done = record { kind = reply o done.kind; done = done.done; stands = done.stands; answer = done.answer; files = done.files; commits = commits-as (putting_way place) keeps (putting_files place) o old new files done.commits }
 
--- A job over the disk does not depend on the end of the input.
-pub job-moved : (did : ℕ → Option Content → Option Content → Outcome → Type 0) (status : Status) (left left' : Option (List ℕ)) (unread unread' : ℕ) (taken taken' : Option (List ℕ)) (lost lost' : ℕ) (coming coming' : Option Moments) (missed missed' : ℕ) (content content' : Option Content) (broken broken' : ℕ)
-    → unread' ≡ unread → JobDone did status (all_edges None 0 taken lost coming missed content broken) (all_edges None 0 taken' lost' coming' missed' content' broken')
-    → JobDone did status (all_edges left unread taken lost coming missed content broken) (all_edges left' unread' taken' lost' coming' missed' content' broken')
-job-moved did status left left' unread unread' taken taken' lost lost' coming coming' missed missed' content content' broken broken' same (inl p) =
+-- A job over the disk depends neither on the end of the input nor on the peer.
+pub job-moved : (did : ℕ → Option Content → Option Content → Outcome → Type 0) (status : Status) (left left' : Option (List ℕ)) (unread unread' : ℕ) (taken taken' : Option (List ℕ)) (lost lost' : ℕ) (coming coming' : Option Moments) (missed missed' : ℕ) (content content' : Option Content) (broken broken' : ℕ) (peer peer' : PeerState)
+    → unread' ≡ unread → JobDone did status (all_edges None 0 taken lost coming missed content broken no_peer) (all_edges None 0 taken' lost' coming' missed' content' broken' no_peer)
+    → JobDone did status (all_edges left unread taken lost coming missed content broken peer) (all_edges left' unread' taken' lost' coming' missed' content' broken' peer')
+job-moved did status left left' unread unread' taken taken' lost lost' coming coming' missed missed' content content' broken broken' peer peer' same (inl p) =
     inl (printed-as taken lost taken' lost' _ _ status p (λ s words due. record {
       outcome = due.outcome;
       acts = record { moment = due.acts.moment; first = due.acts.first; coming = due.acts.coming; acts = due.acts.acts; fault = due.acts.fault; input_kept = same; clock_kept = due.acts.clock_kept; disk_kept = due.acts.disk_kept };
       status_is = due.status_is;
       printed_is = due.printed_is;
     }))
-job-moved did status left left' unread unread' taken taken' lost lost' coming coming' missed missed' content content' broken broken' same (inr m) =
+job-moved did status left left' unread unread' taken taken' lost lost' coming coming' missed missed' content content' broken broken' peer peer' same (inr m) =
     inr (record { status_is = m.0.status_is; taken_is = m.0.taken_is; lost_kept = m.0.lost_kept; coming_kept = m.0.coming_kept; kept = m.0.kept; disk_kept = m.0.disk_kept }, m.1, same)
+
+-- Nor does a message that was to be put there.
+pub put-moved : (place : Option ℕ) (status : Status) (left left' : Option (List ℕ)) (unread unread' : ℕ) (taken taken' : Option (List ℕ)) (lost lost' : ℕ) (coming coming' : Option Moments) (missed missed' : ℕ) (content content' : Option Content) (broken broken' : ℕ) (peer peer' : PeerState)
+    → InputDone place status (all_edges left unread taken lost coming missed content broken no_peer) (all_edges left' unread' taken' lost' coming' missed' content' broken' no_peer)
+    → InputDone place status (all_edges left unread taken lost coming missed content broken peer) (all_edges left' unread' taken' lost' coming' missed' content' broken' peer')
+put-moved place status left left' unread unread' taken taken' lost lost' coming coming' missed missed' content content' broken broken' peer peer' (inl (input, told, inl p)) =
+    inl (input, told, inl (printed-as taken lost taken' lost' _ _ status p (λ s words due. record {
+      outcome = due.outcome;
+      acts = record { moment = due.acts.moment; first = due.acts.first; coming = due.acts.coming; acts = due.acts.acts; fault = due.acts.fault; input_kept = due.acts.input_kept; clock_kept = due.acts.clock_kept; disk_kept = due.acts.disk_kept };
+      status_is = due.status_is;
+      printed_is = due.printed_is;
+    })))
+put-moved place status left left' unread unread' taken taken' lost lost' coming coming' missed missed' content content' broken broken' peer peer' (inl (input, told, inr m)) =
+    inl (input, told, inr (record { status_is = m.0.status_is; taken_is = m.0.taken_is; lost_kept = m.0.lost_kept; coming_kept = m.0.coming_kept; kept = m.0.kept; disk_kept = m.0.disk_kept }, m.1, m.2))
+put-moved place status left left' unread unread' taken taken' lost lost' coming coming' missed missed' content content' broken broken' peer peer' (inr (inl p)) =
+    inr (inl (printed-as taken lost taken' lost' _ _ status p (λ s words due. record { status_is = due.status_is; printed_is = due.printed_is; kept = due.kept; spared = record { input = due.spared.input; clock = due.spared.clock; disk = due.spared.disk; coming = due.spared.coming } })))
+put-moved place status left left' unread unread' taken taken' lost lost' coming coming' missed missed' content content' broken broken' peer peer' (inr (inr (silent, rose, same))) =
+    inr (inr (record { status_is = silent.status_is; taken_is = silent.taken_is; lost_kept = silent.lost_kept; coming_kept = silent.coming_kept; kept = silent.kept; disk_kept = silent.disk_kept }, rose, same))
 
 -- The line for out of memory is due if a message wasn't read.
 pub unread-due : (status : Status) (i j : RunState) (out : Option (List ℕ)) (lost : ℕ) (out' : Option (List ℕ)) (lost' : ℕ) → j.content ≡ i.content → NoneFailed i j → Printed (Exactly (whole_line (codes "12 no memory")) exit.Memory) status out lost out' lost' → Printed (IsInputUnread i j) status out lost out' lost'

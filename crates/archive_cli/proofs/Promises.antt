@@ -61,7 +61,8 @@ taken-ready g false old s command moment new reply t is taken = absurd (cc is)
 
 module _ {D : Type 0} (g : Disk D) where
   pub nothing-lost : NothingIsLost g
-  nothing-lost found old opened new next arrivals first stages last command moment o served = (
+  nothing-lost found old opened new next arrivals first stages last command given put moment o served = (
+    λ acts. (let came = acts.stands served.runs.after served.stands.0 served.stands.1 in (came.0, served.stands.0, came.1, came.2)),
     λ acts. (let came = acts.stands served.runs.after served.stands.0 served.stands.1 in (came.0, served.stands.0, came.1, came.2)),
     λ acts. (let came = acts.stands served.runs.after served.stands.0 served.stands.1 in (came.0, served.stands.0, came.1, came.2)),
   )

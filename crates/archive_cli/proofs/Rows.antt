@@ -7,6 +7,8 @@ use Rattle.arch_base.specs.declared.config.Config.{Config}
 use Rattle.arch_base.specs.declared.ids.Form.TheVariants.{Sha256}
 use Rattle.disk_model.specs.Disk.{Files, Content, Image, WhereTold}
 use Rattle.edge_io.specs.Coming.{IsFirstMoment, after_first}
+use Rattle.edge_io.specs.declared.peer.Reply.{Reply}
+use Rattle.fetch_course.specs.declared.answer.FetchAnswer.TheVariants as fetching
 use Rattle.arch_model.specs.Archives.{Archive, empty_archive, live, text_of}
 use Rattle.arch_model.specs.Delivery.{Done}
 use Rattle.arch_model.specs.Keeping.{Settles, CommandGives, Obeys, Doubts}
@@ -28,16 +30,18 @@ use Rattle.epoch_store.specs.declared.convert_refusal.ConvertRefusal.TheVariants
 use Rattle.archive_core.specs.Engines.{store-recovers}
 use Rattle.archive_core.proofs.Engines.{recovers_either}
 use Rattle.archive_cli.specs.declared.outcome.Outcome.{Outcome}
-use Rattle.archive_cli.specs.declared.outcome.Outcome.TheVariants.{Made, Exists, Reindexed, Checked, Converted, Unconverted, Answered, Unopened}
+use Rattle.archive_cli.specs.declared.outcome.Outcome.TheVariants.{Made, Exists, Reindexed, Checked, Converted, Unconverted, Fetched, Unfetched, Answered, Unopened}
 use Rattle.archive_cli.specs.declared.status.Status.{Status}
 use Rattle.archive_cli.specs.declared.status.Status.TheVariants as exit
 use Rattle.archive_cli.specs.declared.words.Job.{Job}
-use Rattle.archive_cli.specs.declared.words.Job.TheVariants.{Help, Version, Replay, Load, Init, Deliver, Remove, Purge, Edit, Reindex, Check, Convert, Serve}
+use Rattle.archive_cli.specs.declared.words.Job.TheVariants.{Help, Version, Replay, Load, Init, Deliver, Remove, Purge, Edit, Reindex, Check, Convert, Fetch, Serve}
 use Rattle.archive_core.specs.Commands.{AnswersPurge, AnswersRemoval}
 use Rattle.archive_cli.specs.DiskCommands.{IsMadeDisk, MakesDisk, StandsAs, StandsInDoubt, StaysUnopened, CommandTakes, ConvertsOn, ReindexesOn, ChecksOn, delivering, removing, purging, editing}
-use Rattle.archive_cli.specs.Laws.{WithMessage, WithRemoval, WithPurge, WithEdit, WithNewIds, Goes, RunsInARow}
+use Rattle.archive_cli.specs.Laws.{WithMessage, WithRemoval, WithPurge, WithEdit, WithNewIds, WithSource, Goes, RunsInARow}
+use Rattle.archive_cli.specs.Fetches.{BecomesOver, FetchStands, FetchesOn}
 use Rattle.archive_cli.specs.Outcomes.{status_of}
-use Rattle.archive_cli.specs.Program.{RunState, JobEnds, InitActs, CommandActs, MessageActs, ReindexActs, CheckActs, ConvertActs, IsDue, RunEnds, Ran, IsInput, IsOnArchive, AsksForInit, AsksOfArchive, message_of, made_at, unasked, any_files, purge_files}
+use Rattle.archive_cli.specs.Peers.{AreFirst}
+use Rattle.archive_cli.specs.Program.{RunState, JobEnds, InitActs, CommandActs, MessageActs, ReindexActs, CheckActs, ConvertActs, FetchEnds, IsDue, RunEnds, Ran, IsInput, IsOnArchive, AsksForInit, AsksOfArchive, message_of, made_at, unasked, any_files, purge_files}
 use Rattle.archive_cli.specs.Statuses.{code_of}
 use Rattle.archive_cli.specs.Words.{AsksFor, IsJob, serve_word}
 
@@ -47,7 +51,7 @@ other-words c d x y xs ys apart same = apart (ap (λ (words : List (List ℕ)). 
 
 -- Whether the first word is that of a job on the archive: by its first and its third byte.
 abbrev is_on : ℕ → Bool
-is_on tag = tag == 100108 || (tag == 114109 || (tag == 112114 || (tag == 101105 || (tag == 114105 || (tag == 99101 || tag == 99110)))))
+is_on tag = tag == 100108 || (tag == 114109 || (tag == 112114 || (tag == 101105 || (tag == 114105 || (tag == 99101 || (tag == 99110 || tag == 102116))))))
 
 abbrev asks_on : List (List ℕ) → Bool
 asks_on words = is_on (1000 * get_or (get_or words 0 []) 0 0 + get_or (get_or words 0 []) 2 0)
@@ -60,6 +64,7 @@ on-asked words (Edit number) on asked = ap asks_on asked.is
 on-asked words Reindex on asked = ap asks_on asked
 on-asked words Check on asked = ap asks_on asked
 on-asked words Convert on asked = ap asks_on asked
+on-asked words (Fetch address) on asked = ap asks_on asked.is
 on-asked words Help never asked = absurd never
 on-asked words Version never asked = absurd never
 on-asked words (Replay config) never asked = absurd never
@@ -75,6 +80,7 @@ asked-on words (Edit number) on asked = tt
 asked-on words Reindex on asked = tt
 asked-on words Check on asked = tt
 asked-on words Convert on asked = tt
+asked-on words (Fetch address) on asked = tt
 asked-on words Help on asked = false≢true (sym (ap asks_on asked) ∙ on)
 asked-on words Version on asked = false≢true (sym (ap asks_on asked) ∙ on)
 asked-on words (Replay config) on asked = false≢true (sym (ap asks_on asked.is) ∙ on)
@@ -100,11 +106,12 @@ only-makes words (Remove number) asked also = absurd (other-words 105 114 (codes
 only-makes words (Purge number) asked also = absurd (other-words 105 112 (codes "nit") (codes "urge") asked.1.after (decimal number ∷ []) (omega arith) (sym asked.1.is ∙ also.is))
 only-makes words (Edit number) asked also = absurd (other-words 105 101 (codes "nit") (codes "dit") asked.1.after (decimal number ∷ []) (omega arith) (sym asked.1.is ∙ also.is))
 only-makes words (Load count seed) asked also = absurd (other-words 105 108 (codes "nit") (codes "oad") asked.1.after (decimal count ∷ decimal seed ∷ []) (omega arith) (sym asked.1.is ∙ also.is))
+only-makes words (Fetch address) asked also = absurd (other-words 105 102 (codes "nit") (codes "etch") asked.1.after also.options (omega arith) (sym asked.1.is ∙ also.is))
 only-makes words (Serve turns port) asked also = absurd (other-words 105 115 (codes "nit") (codes "erve") asked.1.after (map serve_word also.options) (omega arith) (sym asked.1.is ∙ also.is))
 
--- The archive is the same, or what the command or the conversion of the words makes of it.
+-- The archive is the same, or what the command, the conversion or the fetch of the words makes of it.
 abbrev FromBy : List (List ℕ) → RunState → Archive → Archive → Type 0
-FromBy words i old new = (new ≡ old) ⊎ (WithMessage words i old new ⊎ (WithRemoval words i old new ⊎ (WithPurge words old new ⊎ (WithEdit words i old new ⊎ WithNewIds words old new))))
+FromBy words i old new = (new ≡ old) ⊎ (WithMessage words i old new ⊎ (WithRemoval words i old new ⊎ (WithPurge words old new ⊎ (WithEdit words i old new ⊎ (WithNewIds words old new ⊎ WithSource words i old new)))))
 
 -- Each archive of one standing goes on from one of another.
 abbrev Steps : List (List ℕ) → RunState → LastKnown → LastKnown → Type 0
@@ -132,6 +139,8 @@ module _ (words : List (List ℕ)) (i : RunState) where
   steps-reindexed s t old (Converted entries) never = absurd never
   steps-reindexed s t old (Unconverted why) never = absurd never
   steps-reindexed s t old (Checked entries live next) never = absurd never
+  steps-reindexed s t old (Fetched told) never = absurd never
+  steps-reindexed s t old (Unfetched why) never = absurd never
   steps-reindexed s t old (Answered reply) never = absurd never
 
   steps-checked : (s t : LastKnown) (old : Option Content) (o : Outcome) → ChecksOn s old o t → Steps words i s t
@@ -142,12 +151,14 @@ module _ (words : List (List ℕ)) (i : RunState) where
   steps-checked s t old (Converted entries) never = absurd never
   steps-checked s t old (Unconverted why) never = absurd never
   steps-checked s t old (Reindexed live) never = absurd never
+  steps-checked s t old (Fetched told) never = absurd never
+  steps-checked s t old (Unfetched why) never = absurd never
   steps-checked s t old (Answered reply) never = absurd never
 
   steps-converted : AsksFor words Convert → (s t : LastKnown) (old : Option Content) (o : Outcome) → ConvertsOn s old o t → Steps words i s t
   steps-converted asked s t old (Converted entries) done = by where
     by : Steps words i s t
-    by b (inl is) = (done.found, done.is_found, inr (inr (inr (inr (inr (record { asked = asked; taken = done.stands.0; is = is ∙ ap (λ (x : LastKnown). x.archive) done.stands.1 }))))))
+    by b (inl is) = (done.found, done.is_found, inr (inr (inr (inr (inr (inl (record { asked = asked; taken = done.stands.0; is = is ∙ ap (λ (x : LastKnown). x.archive) done.stands.1 })))))))
     by b (inr in_doubt) = absurd (let no : None ≡ Some b = sym (ap (λ (x : LastKnown). x.in_doubt) done.stands.1) ∙ in_doubt in cc)
   steps-converted asked s t old (Unconverted converting.DiskFault) failed = by failed.stands where
     by : StandsInDoubt failed.found t → Steps words i s t
@@ -157,7 +168,7 @@ module _ (words : List (List ℕ)) (i : RunState) where
     by (inr (taken, same)) b (inr in_doubt) =
         let one : Some b ≡ Some (converted Sha256 failed.found) = sym in_doubt ∙ ap (λ (x : LastKnown). x.in_doubt) same in
         let is : b ≡ converted Sha256 failed.found = cc in
-        (failed.found, failed.is_found, inr (inr (inr (inr (inr (record { asked = asked; taken = taken; is = is }))))))
+        (failed.found, failed.is_found, inr (inr (inr (inr (inr (inl (record { asked = asked; taken = taken; is = is })))))))
   steps-converted asked s t old (Unconverted converting.IsMirror) settles = steps-settled s t settles.0
   steps-converted asked s t old (Unconverted converting.Already) settles = steps-settled s t settles.0
   steps-converted asked s t old (Unconverted (converting.Collision number)) settles = steps-settled s t settles.0
@@ -169,7 +180,56 @@ module _ (words : List (List ℕ)) (i : RunState) where
   steps-converted asked s t old Exists never = absurd never
   steps-converted asked s t old (Reindexed live) never = absurd never
   steps-converted asked s t old (Checked entries live next) never = absurd never
+  steps-converted asked s t old (Fetched told) never = absurd never
+  steps-converted asked s t old (Unfetched why) never = absurd never
   steps-converted asked s t old (Answered reply) never = absurd never
+
+  -- A fetch that leaves the archive, or makes another one of it.
+  steps-stayed : (s t : LastKnown) (a : Archive) → IsFound s a → t ≡ standing a None → Steps words i s t
+  steps-stayed s t a found same b (inl is) = (a, found, inl (is ∙ ap (λ (x : LastKnown). x.archive) same))
+  steps-stayed s t a found same b (inr in_doubt) = absurd (let no : None ≡ Some b = sym (ap (λ (x : LastKnown). x.in_doubt) same) ∙ in_doubt in cc)
+
+  module _ (address : List ℕ) (asked : AsksFor words (Fetch address)) (given : List Reply) (first : AreFirst given i.peer.left) where
+    from-source : (a b c : Archive) → b ≡ c → BecomesOver given a c → FromBy words i a b
+    from-source a b c is becomes = inr (inr (inr (inr (inr (inr (record { address = address; asked = asked; given = given; first = first; becomes = subst (BecomesOver given a) (sym is) becomes }))))))
+
+    steps-became : (s t : LastKnown) (a c : Archive) → IsFound s a → BecomesOver given a c → t ≡ standing c None → Steps words i s t
+    steps-became s t a c found becomes same b (inl is) = (a, found, from-source a b c (is ∙ ap (λ (x : LastKnown). x.archive) same) becomes)
+    steps-became s t a c found becomes same b (inr in_doubt) = absurd (let no : None ≡ Some b = sym (ap (λ (x : LastKnown). x.in_doubt) same) ∙ in_doubt in cc)
+
+    steps-unsure : (s t : LastKnown) (a : Archive) → IsFound s a → FetchStands given fetching.DiskFault a t → Steps words i s t
+    steps-unsure s t a found (inl same) = steps-stayed s t a found same
+    steps-unsure s t a found (inr (c, becomes, same)) = by where
+      by : Steps words i s t
+      by b (inl is) = (a, found, inl (is ∙ ap (λ (x : LastKnown). x.archive) same))
+      by b (inr in_doubt) =
+          let one : Some b ≡ Some c = sym in_doubt ∙ ap (λ (x : LastKnown). x.in_doubt) same in
+          let is : b ≡ c = cc in
+          (a, found, from-source a b c is becomes)
+
+    steps-fetched : (put : List (List ℕ)) (s t : LastKnown) (old : Option Content) (o : Outcome) → FetchesOn given put s old o t → Steps words i s t
+    steps-fetched put s t old (Fetched (fetching.Ok changed)) done = let b = done.stands.1 in steps-became s t done.found b.0 done.is_found b.1 b.3
+    steps-fetched put s t old (Fetched fetching.DiskFault) done = steps-unsure s t done.found done.is_found done.stands.1
+    steps-fetched put s t old (Fetched fetching.NotMirror) done = steps-stayed s t done.found done.is_found done.stands.1
+    steps-fetched put s t old (Fetched fetching.PeerFault) done = steps-stayed s t done.found done.is_found done.stands.1
+    steps-fetched put s t old (Fetched (fetching.BadReply status)) done = steps-stayed s t done.found done.is_found done.stands.1
+    steps-fetched put s t old (Fetched (fetching.BadList line)) done = steps-stayed s t done.found done.is_found done.stands.1
+    steps-fetched put s t old (Fetched (fetching.WrongId listed found)) done = steps-stayed s t done.found done.is_found done.stands.1
+    steps-fetched put s t old (Fetched (fetching.Changed id)) done = steps-stayed s t done.found done.is_found done.stands.1
+    steps-fetched put s t old (Fetched (fetching.Renamed number had offered)) done = steps-stayed s t done.found done.is_found done.stands.1
+    steps-fetched put s t old (Fetched (fetching.Revived number)) done = steps-stayed s t done.found done.is_found done.stands.1
+    steps-fetched put s t old (Fetched (fetching.Behind had offered)) done = steps-stayed s t done.found done.is_found done.stands.1
+    steps-fetched put s t old (Fetched (fetching.BadCommit listed computed)) done = steps-stayed s t done.found done.is_found done.stands.1
+    steps-fetched put s t old (Fetched fetching.NoMemory) done = steps-stayed s t done.found done.is_found done.stands.1
+    steps-fetched put s t old (Unfetched why) stays = steps-unopened s t old why stays
+    steps-fetched put s t old (Made name) never = absurd never
+    steps-fetched put s t old Exists never = absurd never
+    steps-fetched put s t old (Reindexed live) never = absurd never
+    steps-fetched put s t old (Checked entries live next) never = absurd never
+    steps-fetched put s t old (Converted entries) never = absurd never
+    steps-fetched put s t old (Unconverted why) never = absurd never
+    steps-fetched put s t old (Answered reply) never = absurd never
+    steps-fetched put s t old (Unopened why) never = absurd never
 
   module _ (wanted : Archive → Done) (goes : (a b : Archive) → b ≡ (wanted a).archive → FromBy words i a b) where
     module _ (s : LastKnown) (a : Archive) (found : IsFound s a) (t : LastKnown) where
@@ -216,6 +276,8 @@ module _ (words : List (List ℕ)) (i : RunState) where
     steps-done s t old Exists never = absurd never
     steps-done s t old (Converted entries) never = absurd never
     steps-done s t old (Unconverted why) never = absurd never
+    steps-done s t old (Fetched told) never = absurd never
+    steps-done s t old (Unfetched why) never = absurd never
     steps-done s t old (Reindexed live) never = absurd never
     steps-done s t old (Checked entries live next) never = absurd never
 
@@ -260,6 +322,11 @@ module _ (words : List (List ℕ)) (i : RunState) where
     leads-converted : AsksFor words Convert → (status : Status) (printed : List ℕ) → JobEnds ConvertActs unasked i j status printed → Leads s j
     leads-converted asked status printed ends = let t = ends.acts.acts.stands s [] all in (t.0, t.1, steps-converted asked s t.0 i.content ends.outcome t.2)
 
+    leads-fetched : (address : List ℕ) → AsksFor words (Fetch address) → (status : Status) (printed : List ℕ) → FetchEnds i j status printed → Leads s j
+    leads-fetched address asked status printed ends =
+        let t = ends.ends.acts.acts.stands s [] all in
+        (t.0, t.1, steps-fetched address asked ends.given (j.peer.left, ends.gave.left) ends.put s t.0 i.content ends.ends.outcome t.2)
+
     module _ (asked : AsksOfArchive words) where
       leads-does : (input : List ℕ) → IsInput i.left input → (status : Status) (printed : List ℕ) (job : Option Job) → IsJob words job → RunEnds job input i j status printed → Leads s j
       leads-does input told status printed None asks ends = absurd (asks asked.0 asked.2)
@@ -270,6 +337,7 @@ module _ (words : List (List ℕ)) (i : RunState) where
       leads-does input told status printed (Some Reindex) asks ends = leads-reindexed status printed ends
       leads-does input told status printed (Some Check) asks ends = leads-checked status printed ends
       leads-does input told status printed (Some Convert) asks ends = leads-converted asks status printed ends
+      leads-does input told status printed (Some (Fetch address)) asks ends = leads-fetched address asks status printed ends
       leads-does input told status printed (Some Help) asks ends = absurd (only-on words Help asked asks)
       leads-does input told status printed (Some Version) asks ends = absurd (only-on words Version asked asks)
       leads-does input told status printed (Some (Replay config)) asks ends = absurd (only-on words (Replay config) asked asks)
@@ -308,6 +376,8 @@ module _ (words : List (List ℕ)) (asked : AsksForInit words) (i j : RunState) 
   made-by config asks born first (Checked entries live next) makes done = absurd makes
   made-by config asks born first (Converted entries) makes done = absurd makes
   made-by config asks born first (Unconverted why) makes done = absurd makes
+  made-by config asks born first (Fetched told) makes done = absurd makes
+  made-by config asks born first (Unfetched why) makes done = absurd makes
   made-by config asks born first (Unopened why) makes done = absurd makes
   made-by config asks born first (Answered answer.DiskFault) makes done = absurd (cc done)
   made-by config asks born first (Answered answer.NoMemory) makes done = absurd (cc done)
@@ -348,6 +418,7 @@ done-code exit.Refused is = absurd (omega (arith, is))
 done-code exit.NotRead is = absurd (omega (arith, is))
 done-code exit.Archive is = absurd (omega (arith, is))
 done-code exit.Disk is = absurd (omega (arith, is))
+done-code exit.Peer is = absurd (omega (arith, is))
 done-code exit.Edges is = absurd (omega (arith, is))
 done-code exit.Memory is = absurd (omega (arith, is))
 done-code exit.Spent is = absurd (omega (arith, is))
@@ -363,25 +434,30 @@ module _ (keeps : KeepsNumbers) (takes : TakesFromView) (itself : FollowsItself)
   follows-as a b c same follows = subst (λ (x : Archive). Follows a x) (sym same) follows
 
   pub goes-by : (words : List (List ℕ)) (i : RunState) (a b : Archive) → FromBy words i a b → Goes words i a b
-  goes-by words i a b (inl same) = record { from = inl same; texts = λ n text spared unpurged unedited is. subst (λ (x : Archive). text_of (live x.entries) n ≡ Some text) (sym same) is; numbers = follows-as a b a same (itself a) }
+  goes-by words i a b (inl same) = record { from = inl same; texts = λ n text spared unpurged unedited unfetched is. subst (λ (x : Archive). text_of (live x.entries) n ≡ Some text) (sym same) is; numbers = follows-as a b a same (itself a) }
   goes-by words i a b (inr (inl more)) = record {
     from = inr (inl more);
-    texts = λ n text spared unpurged unedited is. subst (λ (x : Archive). text_of (live x.entries) n ≡ Some text) (sym more.is) (keeps a (message_of more.input) more.at n text is);
+    texts = λ n text spared unpurged unedited unfetched is. subst (λ (x : Archive). text_of (live x.entries) n ≡ Some text) (sym more.is) (keeps a (message_of more.input) more.at n text is);
     numbers = follows-as a b _ more.is (commands a (command.Deliver (message (message_of more.input))) more.at);
   }
   goes-by words i a b (inr (inr (inl less))) = record {
     from = inr (inr (inl less));
-    texts = λ n text spared unpurged unedited is.
+    texts = λ n text spared unpurged unedited unfetched is.
         let other : n ≢ less.number = λ same. spared (subst (λ (m : ℕ). AsksFor words (Remove m)) (sym same) less.asked) in
         subst (λ (x : Archive). text_of (live x.entries) n ≡ Some text) (sym less.is) ((takes a less.number less.at).0 n other ∙ is);
     numbers = follows-as a b _ less.is (commands a (command.Remove less.number) less.at);
   }
-  goes-by words i a b (inr (inr (inr (inl gone)))) = record { from = inr (inr (inr (inl gone))); texts = λ n text spared unpurged unedited is. absurd (unpurged (gone.number, gone.asked)); numbers = follows-as a b _ gone.is (commands a (command.Purge gone.number) 0) }
-  goes-by words i a b (inr (inr (inr (inr (inl edit))))) = record { from = inr (inr (inr (inr (inl edit)))); texts = λ n text spared unpurged unedited is. absurd (unedited (edit.number, edit.asked)); numbers = follows-as a b _ edit.is (commands a (command.Edit edit.number (message (message_of edit.input))) edit.at) }
-  goes-by words i a b (inr (inr (inr (inr (inr anew))))) = record {
-    from = inr (inr (inr (inr (inr anew))));
-    texts = λ n text spared unpurged unedited is. subst (λ (x : Archive). text_of (live x.entries) n ≡ Some text) (sym anew.is) is;
+  goes-by words i a b (inr (inr (inr (inl gone)))) = record { from = inr (inr (inr (inl gone))); texts = λ n text spared unpurged unedited unfetched is. absurd (unpurged (gone.number, gone.asked)); numbers = follows-as a b _ gone.is (commands a (command.Purge gone.number) 0) }
+  goes-by words i a b (inr (inr (inr (inr (inl edit))))) = record { from = inr (inr (inr (inr (inl edit)))); texts = λ n text spared unpurged unedited unfetched is. absurd (unedited (edit.number, edit.asked)); numbers = follows-as a b _ edit.is (commands a (command.Edit edit.number (message (message_of edit.input))) edit.at) }
+  goes-by words i a b (inr (inr (inr (inr (inr (inl anew)))))) = record {
+    from = inr (inr (inr (inr (inr (inl anew)))));
+    texts = λ n text spared unpurged unedited unfetched is. subst (λ (x : Archive). text_of (live x.entries) n ≡ Some text) (sym anew.is) is;
     numbers = follows-as a b _ anew.is (converts Sha256 a);
+  }
+  goes-by words i a b (inr (inr (inr (inr (inr (inr source)))))) = record {
+    from = inr (inr (inr (inr (inr (inr source)))));
+    texts = λ n text spared unpurged unedited unfetched is. absurd (unfetched (source.address, source.asked));
+    numbers = source.becomes.follows;
   }
 
   -- The three runs.

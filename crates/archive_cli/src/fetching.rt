@@ -18,11 +18,7 @@ use mirror_fetch::fetch;
 use std::alloc::Global;
 
 /// Makes the archive on a disk, which is a mirror, that of the list of a peer.
-pub(crate) fn fetch_archive<D: Disk, P: Peer>(
-    alloc: Global,
-    disk: D,
-    peer: &mut P,
-) -> (Outcome, D)
+pub(crate) fn fetch_archive<D: Disk, P: Peer>(alloc: Global, disk: D, peer: &mut P) -> (Outcome, D)
     ensures fetched { FetchesDisk D.Disk P.Peer disk result.1 peer.old peer.new result.0 }
     ensures cause { RoseIf (IsFault result.0) (D.faults disk) (D.faults result.1) }
     ensures peer_cause { RoseIf (result.0 ≡ outcome.Fetched fetching.PeerFault) (P.faults peer.old)
@@ -42,12 +38,7 @@ pub(crate) fn fetch_archive<D: Disk, P: Peer>(
 /// Makes the archive of a store that was opened on a disk that of the list of a peer.
 ///
 /// After the last root it is refused as out of memory. No archive takes so many commands.
-fn fetched<D: Disk, P: Peer>(
-    alloc: Global,
-    store: Store,
-    disk: &mut D,
-    peer: &mut P,
-) -> FetchAnswer
+fn fetched<D: Disk, P: Peer>(alloc: Global, store: Store, disk: &mut D, peer: &mut P) -> FetchAnswer
     requires sizes { WhereTold (StoreHasSizes store) (D.content disk.old) }
     ensures { FetchesOpened D.Disk P.Peer store disk.old disk.new peer.old peer.new result }
 {

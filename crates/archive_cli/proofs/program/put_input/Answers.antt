@@ -35,7 +35,7 @@ returns-in-Ok-clause-ends g c =
     inl (
       front.0,
       front.1,
-      job-moved (MessageActs place (message_of front.0)) c.carry_out.result.0 _ _ _ _ _ _ _ _ _ _ _ _ _ _ _ _ c.in-Ok.ensures.read.1
+      job-moved (MessageActs place (message_of front.0)) c.carry_out.result.0 _ _ _ _ _ _ _ _ _ _ _ _ _ _ _ _ _ _ c.in-Ok.ensures.read.1
           (job-as (CommandActs (way_of c.command_of.result) (FilesFor c.command_of.result) (IsForCommand c.command_of.result) (taking c.command_of.result)) (MessageActs place (message_of front.0)) c.carry_out.result.0 _ _ (message-as place c.as_slice.result.now front.0 (way_of c.command_of.result) (FilesFor c.command_of.result) (IsForCommand c.command_of.result) (taking c.command_of.result) c.command_of.ensures.way c.command_of.ensures.files c.command_of.ensures.answers c.command_of.ensures.wanted is) c.carry_out.ensures.ends),
     )
 

@@ -7,7 +7,7 @@ use Rattle.archive_cli.specs.DiskCommands.{removing, purging}
 use Rattle.archive_cli.specs.Program.{CommandActs, InitActs, any_files, purge_files}
 use Rattle.archive_cli.specs.Serving.{hosted}
 use Rattle.archive_cli.specs.Words.{spelled}
-use Rattle.archive_cli.specs.declared.words.Job.TheVariants.{Help, Version, Replay, Load, Init, Deliver, Remove, Purge, Edit, Reindex, Check, Convert, Serve}
+use Rattle.archive_cli.specs.declared.words.Job.TheVariants.{Help, Version, Replay, Load, Init, Deliver, Remove, Purge, Edit, Reindex, Check, Convert, Fetch, Serve}
 use Rattle.archive_cli.specs.declared.status.Status.TheVariants as exit
 use Rattle.archive_cli.specs.declared.texts.TheConstants.{HELP, VERSION}
 use Rattle.root_slots.proofs.OneRoots.{none_begins}
@@ -48,7 +48,7 @@ returns-in-Some-Init-clause-ends g c = (
   c.init-status.result.0,
   c.code-in-Some-Init.ensures,
   ran-made (spelled c.args.words.now) c.in-Some-Init.config _ _ _ (rw c.in-Some-Init.field-0-is at c.in-Some-Init.ensures)
-      (job-moved (InitActs c.in-Some-Init.config) c.init-status.result.0 _ _ _ _ _ _ _ _ _ _ _ _ _ _ _ _ refl c.init-status.ensures.ends),
+      (job-moved (InitActs c.in-Some-Init.config) c.init-status.result.0 _ _ _ _ _ _ _ _ _ _ _ _ _ _ _ _ _ _ refl c.init-status.ensures.ends),
 )
 
 pub returns-in-Some-Deliver-clause-ends : goal.returns-in-Some-Deliver-clause-ends
@@ -95,7 +95,7 @@ returns-in-Some-Remove-clause-ends g c =
       c.carry_out-status.result.0,
       c.code-in-Some-Remove.ensures,
       ran-command (spelled c.args.words.now) (Remove number) Appends any_files (AnswersRemoval number) (removing number) _ _ _ asked (inr (inl (number, asked))) (λ input s printed due. due)
-          (job-moved (CommandActs Appends any_files (AnswersRemoval number) (removing number)) c.carry_out-status.result.0 _ _ _ _ _ _ _ _ _ _ _ _ _ _ _ _ refl c.carry_out-status.ensures.ends),
+          (job-moved (CommandActs Appends any_files (AnswersRemoval number) (removing number)) c.carry_out-status.result.0 _ _ _ _ _ _ _ _ _ _ _ _ _ _ _ _ _ _ refl c.carry_out-status.ensures.ends),
     )
 
 pub returns-in-Some-Serve-clause-ends : goal.returns-in-Some-Serve-clause-ends
@@ -130,7 +130,7 @@ returns-in-Some-Purge-clause-ends g c =
       c.carry_out-status-in-Some-Purge.result.0,
       c.code-in-Some-Purge.ensures,
       ran-command (spelled c.args.words.now) (Purge number) Renews (purge_files number) (AnswersPurge number) (purging number) _ _ _ asked (inr (inr (number, asked))) (λ input s printed due. due)
-          (job-moved (CommandActs Renews (purge_files number) (AnswersPurge number) (purging number)) c.carry_out-status-in-Some-Purge.result.0 _ _ _ _ _ _ _ _ _ _ _ _ _ _ _ _ refl c.carry_out-status-in-Some-Purge.ensures.ends),
+          (job-moved (CommandActs Renews (purge_files number) (AnswersPurge number) (purging number)) c.carry_out-status-in-Some-Purge.result.0 _ _ _ _ _ _ _ _ _ _ _ _ _ _ _ _ _ _ refl c.carry_out-status-in-Some-Purge.ensures.ends),
     )
 
 pub returns-in-Some-Init-clause-crash : goal.returns-in-Some-Init-clause-crash
