@@ -13,7 +13,7 @@ use Rattle.archive_cli.specs.declared.texts.TheConstants.{HELP, VERSION}
 use Rattle.root_slots.proofs.OneRoots.{none_begins}
 use Rattle.archive_cli.proofs.Committing.{still-none, still-one}
 use Rattle.archive_cli.proofs.Grammar.{replay-config, init-config, same-serve}
-use Rattle.archive_cli.proofs.Printed.{ran-exactly, ran-replayed, ran-loaded, ran-made, ran-put, ran-command, ran-reindexed, ran-checked, ran-converted, ran-served, job-moved, some-moment}
+use Rattle.archive_cli.proofs.Printed.{ran-exactly, ran-replayed, ran-loaded, ran-made, ran-put, ran-command, ran-reindexed, ran-checked, ran-converted, ran-fetched, ran-served, job-moved, put-moved, some-moment}
 use Rattle.archive_cli.proofs.ServedDisk.{shut-faults}
 use Rattle.archive_cli.proofs.program.run.Goals as goal
 
@@ -53,7 +53,7 @@ returns-in-Some-Init-clause-ends g c = (
 
 pub returns-in-Some-Deliver-clause-ends : goal.returns-in-Some-Deliver-clause-ends
 returns-in-Some-Deliver-clause-ends g c =
-    (c.put_input-status.result.0, c.code-in-Some-Deliver.ensures, ran-put (spelled c.args.words.now) None _ _ _ (rw c.in-Some-Deliver.field-0-is at c.in-Some-Deliver.ensures) c.put_input-status.ensures.ends)
+    (c.put_input-status.result.0, c.code-in-Some-Deliver.ensures, ran-put (spelled c.args.words.now) None _ _ _ (rw c.in-Some-Deliver.field-0-is at c.in-Some-Deliver.ensures) (put-moved None c.put_input-status.result.0 _ _ _ _ _ _ _ _ _ _ _ _ _ _ _ _ _ _ c.put_input-status.ensures.ends))
 
 pub init-status-requires : goal.init-status-requires
 init-status-requires g c = init-config (spelled c.args.words.now) c.in-Some-Init.config (rw c.in-Some-Init.field-0-is at c.in-Some-Init.ensures)
@@ -86,6 +86,16 @@ returns-in-Some-Convert-clause-ends g c =
       c.code-in-Some-Convert.ensures,
       ran-converted (spelled c.args.words.now) _ _ _ c.convert-outcome.result.0 (rw c.in-Some-Convert.field-0-is at c.in-Some-Convert.ensures)
           (record { moment = some.0; first = some.1; coming = refl; acts = record { kind = c.convert-outcome.ensures.kind; done = c.convert-outcome.ensures.done; stands = c.convert-outcome.ensures.stands; answer = c.convert-outcome.ensures.answer; files = c.convert-outcome.ensures.files; commits = c.convert-outcome.ensures.commits }; fault = c.convert-outcome.ensures.cause.failed; input_kept = refl; clock_kept = refl; disk_kept = c.convert-outcome.ensures.cause.kept }) c.print_outcome-in-Some-Convert.ensures.printed,
+    )
+
+pub returns-in-Some-Fetch-clause-ends : goal.returns-in-Some-Fetch-clause-ends
+returns-in-Some-Fetch-clause-ends g c =
+    let some = some-moment (g.C.Clock.coming c.args.clock.now) in
+    let fetched = c.fetch_archive-outcome.ensures.fetched in (
+      c.print_outcome-in-Some-Fetch.result,
+      c.code-in-Some-Fetch.ensures,
+      ran-fetched (spelled c.args.words.now) c.in-Some-Fetch._address _ _ _ c.fetch_archive-outcome.result.0 fetched.given fetched.put (rw c.in-Some-Fetch.field-0-is at c.in-Some-Fetch.ensures) (record { left = fetched.gave.left; asked = fetched.gave.asked })
+          (record { moment = some.0; first = some.1; coming = refl; acts = fetched.acts some.0; fault = c.fetch_archive-outcome.ensures.cause.failed; input_kept = refl; clock_kept = refl; disk_kept = c.fetch_archive-outcome.ensures.cause.kept }) c.fetch_archive-outcome.ensures.peer_cause c.print_outcome-in-Some-Fetch.ensures.printed,
     )
 
 pub returns-in-Some-Remove-clause-ends : goal.returns-in-Some-Remove-clause-ends
@@ -121,7 +131,7 @@ returns-in-Some-Serve-clause-host g c = λ none. absurd (none c.in-Some-Serve.tu
 
 pub returns-in-Some-Edit-clause-ends : goal.returns-in-Some-Edit-clause-ends
 returns-in-Some-Edit-clause-ends g c =
-    (c.put_input-status-in-Some-Edit.result.0, c.code-in-Some-Edit.ensures, ran-put (spelled c.args.words.now) (Some c.in-Some-Edit.number) _ _ _ (rw c.in-Some-Edit.field-0-is at c.in-Some-Edit.ensures) c.put_input-status-in-Some-Edit.ensures.ends)
+    (c.put_input-status-in-Some-Edit.result.0, c.code-in-Some-Edit.ensures, ran-put (spelled c.args.words.now) (Some c.in-Some-Edit.number) _ _ _ (rw c.in-Some-Edit.field-0-is at c.in-Some-Edit.ensures) (put-moved (Some c.in-Some-Edit.number) c.put_input-status-in-Some-Edit.result.0 _ _ _ _ _ _ _ _ _ _ _ _ _ _ _ _ _ _ c.put_input-status-in-Some-Edit.ensures.ends))
 
 pub returns-in-Some-Purge-clause-ends : goal.returns-in-Some-Purge-clause-ends
 returns-in-Some-Purge-clause-ends g c =
@@ -156,6 +166,20 @@ returns-in-Some-Check-clause-crash g c = ((Some Check), rw c.in-Some-Check.field
 
 pub returns-in-Some-Convert-clause-crash : goal.returns-in-Some-Convert-clause-crash
 returns-in-Some-Convert-clause-crash g c = ((Some Convert), rw c.in-Some-Convert.field-0-is at c.in-Some-Convert.ensures, c.convert-outcome.ensures.crash)
+
+pub returns-in-Some-Fetch-clause-crash : goal.returns-in-Some-Fetch-clause-crash
+returns-in-Some-Fetch-clause-crash g c =
+    let fetched = c.fetch_archive-outcome.ensures.fetched in
+    ((Some (Fetch c.in-Some-Fetch._address)), rw c.in-Some-Fetch.field-0-is at c.in-Some-Fetch.ensures, (fetched.given, (g.P.Peer.left c.fetch_archive-outcome.new.peer, fetched.gave.left), fetched.crash))
+
+pub returns-in-Some-Fetch-clause-peer : goal.returns-in-Some-Fetch-clause-peer
+returns-in-Some-Fetch-clause-peer g c = λ none. absurd (none c.in-Some-Fetch._address (rw c.in-Some-Fetch.field-0-is at c.in-Some-Fetch.ensures))
+
+pub returns-in-Some-Fetch-clause-crash_root : goal.returns-in-Some-Fetch-clause-crash_root
+returns-in-Some-Fetch-clause-crash_root g c = λ made serves. c.fetch_archive-outcome.ensures.fetched.crash_root
+
+pub returns-in-Some-Fetch-clause-crash_none : goal.returns-in-Some-Fetch-clause-crash_none
+returns-in-Some-Fetch-clause-crash_none g c = λ commands converts fetches serves. absurd (fetches c.in-Some-Fetch._address (rw c.in-Some-Fetch.field-0-is at c.in-Some-Fetch.ensures))
 
 pub returns-in-Some-Help-clause-crash : goal.returns-in-Some-Help-clause-crash
 returns-in-Some-Help-clause-crash g c = ((Some Help), rw c.in-Some-Help.field-0-is at c.in-Some-Help.ensures, refl)
@@ -194,82 +218,82 @@ pub returns-in-None-clause-crash_root : goal.returns-in-None-clause-crash_root
 returns-in-None-clause-crash_root g c = λ made serves. still-one g.D.Disk g.met.D.Disk.only_now c.args.disk
 
 pub returns-in-None-clause-crash_none : goal.returns-in-None-clause-crash_none
-returns-in-None-clause-crash_none g c = λ commands converts serves. still-none g.D.Disk g.met.D.Disk.only_now c.args.disk
+returns-in-None-clause-crash_none g c = λ commands converts fetches serves. still-none g.D.Disk g.met.D.Disk.only_now c.args.disk
 
 pub returns-in-Some-Help-clause-crash_root : goal.returns-in-Some-Help-clause-crash_root
 returns-in-Some-Help-clause-crash_root g c = λ made serves. still-one g.D.Disk g.met.D.Disk.only_now c.args.disk
 
 pub returns-in-Some-Help-clause-crash_none : goal.returns-in-Some-Help-clause-crash_none
-returns-in-Some-Help-clause-crash_none g c = λ commands converts serves. still-none g.D.Disk g.met.D.Disk.only_now c.args.disk
+returns-in-Some-Help-clause-crash_none g c = λ commands converts fetches serves. still-none g.D.Disk g.met.D.Disk.only_now c.args.disk
 
 pub returns-in-Some-Version-clause-crash_root : goal.returns-in-Some-Version-clause-crash_root
 returns-in-Some-Version-clause-crash_root g c = λ made serves. still-one g.D.Disk g.met.D.Disk.only_now c.args.disk
 
 pub returns-in-Some-Version-clause-crash_none : goal.returns-in-Some-Version-clause-crash_none
-returns-in-Some-Version-clause-crash_none g c = λ commands converts serves. still-none g.D.Disk g.met.D.Disk.only_now c.args.disk
+returns-in-Some-Version-clause-crash_none g c = λ commands converts fetches serves. still-none g.D.Disk g.met.D.Disk.only_now c.args.disk
 
 pub returns-in-Some-Replay-clause-crash_root : goal.returns-in-Some-Replay-clause-crash_root
 returns-in-Some-Replay-clause-crash_root g c = λ made serves. still-one g.D.Disk g.met.D.Disk.only_now c.args.disk
 
 pub returns-in-Some-Replay-clause-crash_none : goal.returns-in-Some-Replay-clause-crash_none
-returns-in-Some-Replay-clause-crash_none g c = λ commands converts serves. still-none g.D.Disk g.met.D.Disk.only_now c.args.disk
+returns-in-Some-Replay-clause-crash_none g c = λ commands converts fetches serves. still-none g.D.Disk g.met.D.Disk.only_now c.args.disk
 
 pub returns-in-Some-Load-clause-crash_root : goal.returns-in-Some-Load-clause-crash_root
 returns-in-Some-Load-clause-crash_root g c = λ made serves. still-one g.D.Disk g.met.D.Disk.only_now c.args.disk
 
 pub returns-in-Some-Load-clause-crash_none : goal.returns-in-Some-Load-clause-crash_none
-returns-in-Some-Load-clause-crash_none g c = λ commands converts serves. still-none g.D.Disk g.met.D.Disk.only_now c.args.disk
+returns-in-Some-Load-clause-crash_none g c = λ commands converts fetches serves. still-none g.D.Disk g.met.D.Disk.only_now c.args.disk
 
 pub returns-in-Some-Reindex-clause-crash_root : goal.returns-in-Some-Reindex-clause-crash_root
 returns-in-Some-Reindex-clause-crash_root g c = λ made serves. none_begins g.D.Disk c.args.disk _ c.reindex-outcome.ensures.crash_root
 
 pub returns-in-Some-Reindex-clause-crash_none : goal.returns-in-Some-Reindex-clause-crash_none
-returns-in-Some-Reindex-clause-crash_none g c = λ commands converts serves. c.reindex-outcome.ensures.crash_root
+returns-in-Some-Reindex-clause-crash_none g c = λ commands converts fetches serves. c.reindex-outcome.ensures.crash_root
 
 pub returns-in-Some-Check-clause-crash_root : goal.returns-in-Some-Check-clause-crash_root
 returns-in-Some-Check-clause-crash_root g c = λ made serves. none_begins g.D.Disk c.args.disk _ c.check-outcome.ensures.crash_root
 
 pub returns-in-Some-Check-clause-crash_none : goal.returns-in-Some-Check-clause-crash_none
-returns-in-Some-Check-clause-crash_none g c = λ commands converts serves. c.check-outcome.ensures.crash_root
+returns-in-Some-Check-clause-crash_none g c = λ commands converts fetches serves. c.check-outcome.ensures.crash_root
 
 pub returns-in-Some-Convert-clause-crash_root : goal.returns-in-Some-Convert-clause-crash_root
 returns-in-Some-Convert-clause-crash_root g c = λ made serves. c.convert-outcome.ensures.crash_root
 
 pub returns-in-Some-Convert-clause-crash_none : goal.returns-in-Some-Convert-clause-crash_none
-returns-in-Some-Convert-clause-crash_none g c = λ commands converts serves. absurd (converts (rw c.in-Some-Convert.field-0-is at c.in-Some-Convert.ensures))
+returns-in-Some-Convert-clause-crash_none g c = λ commands converts fetches serves. absurd (converts (rw c.in-Some-Convert.field-0-is at c.in-Some-Convert.ensures))
 
 pub returns-in-Some-Deliver-clause-crash_root : goal.returns-in-Some-Deliver-clause-crash_root
 returns-in-Some-Deliver-clause-crash_root g c = λ made serves. c.put_input-status.ensures.crash_root
 
 pub returns-in-Some-Deliver-clause-crash_none : goal.returns-in-Some-Deliver-clause-crash_none
-returns-in-Some-Deliver-clause-crash_none g c = λ commands converts serves. absurd (commands (inr (inl (inl (rw c.in-Some-Deliver.field-0-is at c.in-Some-Deliver.ensures)))))
+returns-in-Some-Deliver-clause-crash_none g c = λ commands converts fetches serves. absurd (commands (inr (inl (inl (rw c.in-Some-Deliver.field-0-is at c.in-Some-Deliver.ensures)))))
 
 pub returns-in-Some-Remove-clause-crash_root : goal.returns-in-Some-Remove-clause-crash_root
 returns-in-Some-Remove-clause-crash_root g c = λ made serves. c.carry_out-status.ensures.crash_root
 
 pub returns-in-Some-Remove-clause-crash_none : goal.returns-in-Some-Remove-clause-crash_none
-returns-in-Some-Remove-clause-crash_none g c = λ commands converts serves. absurd (commands (inr (inr (inl (c.in-Some-Remove.number, rw c.in-Some-Remove.field-0-is at c.in-Some-Remove.ensures)))))
+returns-in-Some-Remove-clause-crash_none g c = λ commands converts fetches serves. absurd (commands (inr (inr (inl (c.in-Some-Remove.number, rw c.in-Some-Remove.field-0-is at c.in-Some-Remove.ensures)))))
 
 pub returns-in-Some-Purge-clause-crash_root : goal.returns-in-Some-Purge-clause-crash_root
 returns-in-Some-Purge-clause-crash_root g c = λ made serves. c.carry_out-status-in-Some-Purge.ensures.crash_root
 
 pub returns-in-Some-Purge-clause-crash_none : goal.returns-in-Some-Purge-clause-crash_none
-returns-in-Some-Purge-clause-crash_none g c = λ commands converts serves. absurd (commands (inr (inr (inr (c.in-Some-Purge.number, rw c.in-Some-Purge.field-0-is at c.in-Some-Purge.ensures)))))
+returns-in-Some-Purge-clause-crash_none g c = λ commands converts fetches serves. absurd (commands (inr (inr (inr (c.in-Some-Purge.number, rw c.in-Some-Purge.field-0-is at c.in-Some-Purge.ensures)))))
 
 pub returns-in-Some-Edit-clause-crash_root : goal.returns-in-Some-Edit-clause-crash_root
 returns-in-Some-Edit-clause-crash_root g c = λ made serves. c.put_input-status-in-Some-Edit.ensures.crash_root
 
 pub returns-in-Some-Edit-clause-crash_none : goal.returns-in-Some-Edit-clause-crash_none
-returns-in-Some-Edit-clause-crash_none g c = λ commands converts serves. absurd (commands (inr (inl (inr (c.in-Some-Edit.number, rw c.in-Some-Edit.field-0-is at c.in-Some-Edit.ensures)))))
+returns-in-Some-Edit-clause-crash_none g c = λ commands converts fetches serves. absurd (commands (inr (inl (inr (c.in-Some-Edit.number, rw c.in-Some-Edit.field-0-is at c.in-Some-Edit.ensures)))))
 
 pub returns-in-Some-Init-clause-crash_root : goal.returns-in-Some-Init-clause-crash_root
 returns-in-Some-Init-clause-crash_root g c = λ made serves. absurd (made (c.in-Some-Init.config, rw c.in-Some-Init.field-0-is at c.in-Some-Init.ensures))
 
 pub returns-in-Some-Init-clause-crash_none : goal.returns-in-Some-Init-clause-crash_none
-returns-in-Some-Init-clause-crash_none g c = λ commands converts serves. absurd (commands (inl (c.in-Some-Init.config, rw c.in-Some-Init.field-0-is at c.in-Some-Init.ensures)))
+returns-in-Some-Init-clause-crash_none g c = λ commands converts fetches serves. absurd (commands (inl (c.in-Some-Init.config, rw c.in-Some-Init.field-0-is at c.in-Some-Init.ensures)))
 
 pub returns-in-Some-Serve-clause-crash_root : goal.returns-in-Some-Serve-clause-crash_root
 returns-in-Some-Serve-clause-crash_root g c = λ made serves. absurd (serves c.in-Some-Serve.turns c.in-Some-Serve._port (rw c.in-Some-Serve.field-0-is at c.in-Some-Serve.ensures))
 
 pub returns-in-Some-Serve-clause-crash_none : goal.returns-in-Some-Serve-clause-crash_none
-returns-in-Some-Serve-clause-crash_none g c = λ commands converts serves. absurd (serves c.in-Some-Serve.turns c.in-Some-Serve._port (rw c.in-Some-Serve.field-0-is at c.in-Some-Serve.ensures))
+returns-in-Some-Serve-clause-crash_none g c = λ commands converts fetches serves. absurd (serves c.in-Some-Serve.turns c.in-Some-Serve._port (rw c.in-Some-Serve.field-0-is at c.in-Some-Serve.ensures))
