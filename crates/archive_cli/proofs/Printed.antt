@@ -258,12 +258,16 @@ pub put-moved : (place : Option ℕ) (status : Status) (left left' : Option (Lis
     → InputDone place status (all_edges left unread taken lost coming missed content broken no_peer) (all_edges left' unread' taken' lost' coming' missed' content' broken' no_peer)
     → InputDone place status (all_edges left unread taken lost coming missed content broken peer) (all_edges left' unread' taken' lost' coming' missed' content' broken' peer')
 put-moved place status left left' unread unread' taken taken' lost lost' coming coming' missed missed' content content' broken broken' peer peer' (inl (input, told, inl p)) =
-    inl (input, told, inl (printed-as taken lost taken' lost' _ _ status p (λ s words due. record {
-      outcome = due.outcome;
-      acts = record { moment = due.acts.moment; first = due.acts.first; coming = due.acts.coming; acts = due.acts.acts; fault = due.acts.fault; input_kept = due.acts.input_kept; clock_kept = due.acts.clock_kept; disk_kept = due.acts.disk_kept };
-      status_is = due.status_is;
-      printed_is = due.printed_is;
-    })))
+    inl (
+      input,
+      told,
+      inl (printed-as taken lost taken' lost' _ _ status p (λ s words due. record {
+        outcome = due.outcome;
+        acts = record { moment = due.acts.moment; first = due.acts.first; coming = due.acts.coming; acts = due.acts.acts; fault = due.acts.fault; input_kept = due.acts.input_kept; clock_kept = due.acts.clock_kept; disk_kept = due.acts.disk_kept };
+        status_is = due.status_is;
+        printed_is = due.printed_is;
+      })),
+    )
 put-moved place status left left' unread unread' taken taken' lost lost' coming coming' missed missed' content content' broken broken' peer peer' (inl (input, told, inr m)) =
     inl (input, told, inr (record { status_is = m.0.status_is; taken_is = m.0.taken_is; lost_kept = m.0.lost_kept; coming_kept = m.0.coming_kept; kept = m.0.kept; disk_kept = m.0.disk_kept }, m.1, m.2))
 put-moved place status left left' unread unread' taken taken' lost lost' coming coming' missed missed' content content' broken broken' peer peer' (inr (inl p)) =

@@ -14,6 +14,7 @@ piv2: a mailing list archive, kept in the folder piv2-store of this folder
   reindex    build rows, threads and words anew           piv2 reindex
   check      read the whole archive, and count it         piv2 check
   convert    give all objects SHA-256 ids                 piv2 convert
+  fetch      make a mirror what its peer lists            piv2 fetch peer=h:80
   serve [turns=N] [port=N]
              serve until the input ends, or for N events  piv2 serve port=7100
              control 7100, HTTP 7101, news 7102, IMAP 7103, POP3 7104, LMTP 7105
@@ -21,8 +22,7 @@ piv2: a mailing list archive, kept in the folder piv2-store of this folder
              run a script over an archive in memory       piv2 replay a < script
   load COUNT SEED
              fill an archive in memory, and count it      piv2 load 5000 7
-  --help     print this                                   piv2 --help
-  --version  print the version                            piv2 --version
+  --help     print this; --version prints the version     piv2 --help
 
 Settings, in any order: limit=N, N bytes fill a file; slice=N, a mailbox has N
 numbers; max=N, the last number; mirror, no deliveries; sha256, ids by SHA-256.

@@ -1,5 +1,5 @@
-//! A host without events.
-use edge_io::{Event, Host, HostFault};
+//! A host without events, and a peer that gives no reply.
+use edge_io::{Event, Host, HostFault, Peer, PeerRefusal, Reply};
 
 /// A host that gives no event, and takes all bytes.
 #[derive(Drop)]
@@ -33,4 +33,22 @@ impl Host for Absent {
     }
 
     fn close(&mut self, _conn: u32) {}
+}
+
+/// A peer that has no memory for a reply.
+#[derive(Drop)]
+pub(crate) struct Unasked;
+
+impl Peer for Unasked {
+    ghost use Rattle.std.specs.Prelude.{None};
+
+    ghost left = { λ s. None };
+
+    ghost asked = { λ s. None };
+
+    ghost faults = { λ s. 0 };
+
+    fn get(&mut self, _path: &[u8]) -> Result<Reply, PeerRefusal> {
+        Err(PeerRefusal::NoMemory)
+    }
 }

@@ -1,6 +1,6 @@
 //! Runs of the program over a disk in memory: an archive is made, messages are delivered and removed,
 //! and it is reindexed and checked.
-use crate::absent::Absent;
+use crate::absent::{Absent, Unasked};
 use crate::run_tests::{Due, bytes, numbers};
 use arch_base::{NoMemory, Numbers};
 use archive_cli::{run, run_after_init};
@@ -80,6 +80,7 @@ fn ran_on<D: Disk + Drop>(
         words,
         disk,
         &mut Absent,
+        &mut Unasked,
         &mut source,
         &mut sink,
         &mut Still,
@@ -612,6 +613,7 @@ fn failing<C: Clock>(
         &["deliver"],
         disk,
         &mut Absent,
+        &mut Unasked,
         &mut source,
         sink,
         clock,

@@ -9,6 +9,8 @@ mod convert_tests;
 #[cfg(test)]
 mod disk_tests;
 #[cfg(test)]
+mod fetch_tests;
+#[cfg(test)]
 mod load_tests;
 #[cfg(test)]
 mod purge_tests;

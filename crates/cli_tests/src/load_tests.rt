@@ -1,5 +1,5 @@
 //! Loads: their lines, an output that fails, and what they leave alone.
-use crate::absent::Absent;
+use crate::absent::{Absent, Unasked};
 use crate::disk_tests::{Broken, empty};
 use crate::run_tests::{Due, bytes, is_as_due, numbers, ran};
 use archive_cli::run;
@@ -64,6 +64,7 @@ fn over_failing_edges(alloc: Global) -> Option<(MemSink, u64)> {
         ONE.words,
         disk,
         &mut Absent,
+        &mut Unasked,
         &mut source,
         &mut sink,
         &mut clock,

@@ -1,5 +1,5 @@
 //! Runs of the program over an input and an output in memory.
-use crate::absent::Absent;
+use crate::absent::{Absent, Unasked};
 use crate::disk_tests::Still;
 use arch_base::{Bytes, Config, Form, Numbers};
 use archive_cli::{Job, read_words, run};
@@ -53,6 +53,7 @@ pub(crate) fn ran(
         words,
         disk,
         &mut Absent,
+        &mut Unasked,
         &mut source,
         &mut sink,
         &mut Still,
@@ -187,6 +188,7 @@ fn asked(words: &[&str]) -> &'static str {
         Some(Job::Reindex) => "reindex",
         Some(Job::Check) => "check",
         Some(Job::Convert) => "convert",
+        Some(Job::Fetch { address: _ }) => "fetch",
         Some(Job::Serve { turns: _, port: _ }) => "serve",
     }
 }
@@ -199,7 +201,7 @@ struct Request<'a> {
 }
 
 /// Words in the grammar.
-const JOBS: [Request<'_>; 19] = [
+const JOBS: [Request<'_>; 22] = [
     Request {
         words: &["--help"],
         job: "help",
@@ -223,6 +225,18 @@ const JOBS: [Request<'_>; 19] = [
     Request {
         words: &["convert"],
         job: "convert",
+    },
+    Request {
+        words: &["fetch"],
+        job: "fetch",
+    },
+    Request {
+        words: &["fetch", "peer=lists.example.org:80"],
+        job: "fetch",
+    },
+    Request {
+        words: &["fetch", "peer=peer=~"],
+        job: "fetch",
     },
     Request {
         words: &["remove", "1"],
@@ -303,7 +317,7 @@ fn words_that_ask_for_a_mirror(rt: HostRuntime) {
 }
 
 /// Words without the name of an archive, or with another word after a job that has none.
-const NO_JOBS: [&[&str]; 14] = [
+const NO_JOBS: [&[&str]; 21] = [
     &[],
     &[""],
     &["init"],
@@ -316,6 +330,13 @@ const NO_JOBS: [&[&str]; 14] = [
     &["check", "x"],
     &["check", "list", "mirror"],
     &["convert", "sha256"],
+    &["fetch", "peer="],
+    &["fetch", "lists.example.org:80"],
+    &["fetch", "peer=a:1", "peer=a:1"],
+    &["fetch", "peer=a b:1"],
+    &["fetch", "peer=\u{7f}:1"],
+    &["peer=a:1", "fetch"],
+    &["Fetch"],
     &["mirror", "init", "list"],
     &["replay", "list", "mirror"],
 ];
@@ -665,6 +686,7 @@ fn ran_endless(alloc: Global) -> (u8, MemSink) {
         words,
         disk,
         &mut Absent,
+        &mut Unasked,
         &mut Endless,
         &mut sink,
         &mut Still,

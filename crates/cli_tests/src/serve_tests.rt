@@ -1,5 +1,5 @@
 //! Runs of `serve` over disks and hosts in memory.
-use crate::absent::Absent;
+use crate::absent::{Absent, Unasked};
 use crate::disk_tests::{ONE, Still, TAKEN, printing};
 use crate::run_tests::{Due, bytes, numbers};
 use arch_base::Numbers;
@@ -18,6 +18,7 @@ fn ran_alone(alloc: Global, words: &[&str], disk: MemDisk) -> Option<(u8, MemDis
         words,
         disk,
         &mut Absent,
+        &mut Unasked,
         &mut source,
         &mut sink,
         &mut clock,
@@ -56,6 +57,7 @@ fn status(alloc: Global, words: &[&str], disk: MemDisk, text: &[u8], listed: &[u
         words,
         disk,
         &mut host,
+        &mut Unasked,
         &mut source,
         &mut sink,
         &mut clock,
@@ -118,6 +120,7 @@ fn delivering(alloc: Global) -> Option<MemDisk> {
         &["serve"],
         disk,
         &mut host,
+        &mut Unasked,
         &mut source,
         &mut sink,
         &mut Still,
@@ -161,6 +164,7 @@ fn is_shown(alloc: Global) -> Option<bool> {
         &["serve"],
         disk,
         &mut host,
+        &mut Unasked,
         &mut source,
         &mut sink,
         &mut Still,

@@ -5,10 +5,11 @@ use arch_base::NoMemory;
 use archive_cli::{Job, print_no_memory, read_words, run};
 use disk_model::Disk;
 use edge_io::{Clock, Sink, Source};
-use real_edges::{Progress, SocketHost};
+use real_edges::{Progress, SocketHost, SocketPeer};
 use std::alloc::Global;
 use std::env::Args;
 use std::io::{self, ErrorKind};
+use std::str;
 
 /// The port of the control door, if none is named.
 const FIRST_PORT: u16 = 7100;
@@ -73,17 +74,31 @@ fn run_words<D: Disk + Drop, S: Source, O: Sink, C: Clock>(
         Some(Serving { port, .. }) => port,
         None => FIRST_PORT,
     };
+    let Ok(mut peer) = peer_of(rt, &job) else {
+        return (print_no_memory(out).code(), false);
+    };
     match SocketHost::listen_telling(rt, alloc, port, progress) {
         Ok(host) => {
             let mut host = host;
-            let (code, _disk) = run(alloc, words, disk, &mut host, input, out, clock);
+            let (code, _disk) = run(alloc, words, disk, &mut host, &mut peer, input, out, clock);
             if let Some(Serving { turns, .. }) = serving {
                 tell_end(progress, turns, code);
             }
+            tell_cause(progress, "peer ", peer.cause(alloc));
             (code, tell_cause(progress, "sockets: ", host.cause(alloc)))
         }
         Err(NoMemory) => (print_no_memory(out).code(), false),
     }
+}
+
+/// Returns the peer that a job fetches from. Any other job asks none.
+fn peer_of(rt: &HostRuntime, job: &Option<Job>) -> Result<SocketPeer, NoMemory> {
+    let address = match job {
+        // An address is ASCII.
+        Some(Job::Fetch { address }) => str::from_utf8(address.as_slice()).unwrap_or(""),
+        _ => "",
+    };
+    SocketPeer::new(rt, rt.alloc(), address)
 }
 
 /// Returns what a job serves, or `None` if it serves nothing.
