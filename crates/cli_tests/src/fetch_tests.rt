@@ -148,17 +148,18 @@ fn a_fetch_of_the_same_list_changes_nothing(rt: HostRuntime) {
     assert!(rt; printing(rt.alloc(), disk, &CHECKED).is_some());
 }
 
+/// The paths of a first fetch.
+const LIST_PATH: &[u8] = b"/list/_/list";
+
+const TEXT_PATH: &[u8] = b"/list/_/blob/1d023c572ccd6f3cc82ae855343346b043adaba5";
+
 /// Returns whether a first fetch asks for the list, and then for the text.
 fn asks_in_order(alloc: Global) -> Option<bool> {
     let disk = printing(alloc, empty(alloc), &MIRROR)?;
     let mut peer = peer_of(alloc, FIRST.replies)?;
     let _done = fetched(alloc, disk, &mut peer)?;
     match peer.asked() {
-        [list, text] => {
-            let first = list.as_slice() == b"/list/_/list";
-            let path = b"/list/_/blob/1d023c572ccd6f3cc82ae855343346b043adaba5";
-            Some(first && text.as_slice() == path)
-        }
+        [list, text] => { Some(list.as_slice() == LIST_PATH && text.as_slice() == TEXT_PATH) }
         _ => Some(false),
     }
 }
@@ -300,6 +301,9 @@ fn a_fetch_without_memory_says_so(rt: HostRuntime) {
     assert!(rt; printing_all(rt.alloc(), empty(rt.alloc()), &[MIRROR, STARVED]).is_some());
 }
 
+/// What is printed where the disk fails.
+const FAULT: &[u8] = b"12 disk fault\n";
+
 /// Returns how a fetch ends over a mirror's disk that fails after so many calls, and the disk.
 fn stopped(alloc: Global, disk: MemDisk, calls: u64) -> Option<(u8, MemSink, MemDisk)> {
     let mut source = MemSource::new(alloc, bytes(alloc, b"")?, numbers(alloc, &[])?);
@@ -326,7 +330,7 @@ fn goes_on_after(alloc: Global, calls: u64) -> Option<bool> {
     if status == 0 {
         return Some(fetching(alloc, disk, &AGAIN).is_some());
     }
-    let said = status == 4 && sink.taken() == b"12 disk fault\n";
+    let said = status == 4 && sink.taken() == FAULT;
     let mut peer = peer_of(alloc, FIRST.replies)?;
     let (status, disk, _sink) = fetched(alloc, disk, &mut peer)?;
     Some(said && status == 0 && printing(alloc, disk, &CHECKED).is_some())
