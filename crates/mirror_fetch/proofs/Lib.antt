@@ -9,3 +9,4 @@ mod Adopted
 mod Listed
 mod TextsTook
 mod KeptLines
+mod Lists

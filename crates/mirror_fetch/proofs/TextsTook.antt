@@ -80,7 +80,7 @@ module _ (v : StoreState) (at : ℕ) (line : EntryLine) (text : List ℕ) (old n
   blob_is : blob_id_of a.config.form text ≡ line.blob
   blob_is = known-blob a.config.form a.entries es line.blob text known
 
-  known_line : (result : Result Unit FetchAnswer) → AddsText v cache a k at es line text new result → ((why : FetchAnswer) → result ≡ Err why → IsOfText why) → GoesLine v cache a k at es line [] [] new result
+  known_line : (result : Result Unit FetchAnswer) → AddsText v cache a k at es line text new result → IfErr result IsOfText → GoesLine v cache a k at es line [] [] new result
   known_line (Ok _) adds of = (
     text,
     known-goes a at es line text known adds.0,
@@ -91,13 +91,13 @@ module _ (v : StoreState) (at : ℕ) (line : EntryLine) (text : List ℕ) (old n
           ∙ ap (λ (x : Asked). asked_text x q) (sym same);
     },
   )
-  known_line (Err why) adds of = known-ends a at es line text known why (of why refl) adds
+  known_line (Err why) adds of = known-ends a at es line text known why of adds
 
 -- The text was asked for before, or is an own one.
-module _ {P : Type 0} (p : Peer P) (x : P) (v : StoreState) (at : ℕ) (line : EntryLine) (text : List ℕ) (old new : Taking) (same : new.asked ≡ old.asked) (result : Result Unit FetchAnswer) (adds : AddsAny v at line text old new result) (of : (why : FetchAnswer) → result ≡ Err why → IsOfText why) where
-  refused_of : (r : Result Unit FetchAnswer) → ((why : FetchAnswer) → r ≡ Err why → IsOfText why) → IfErr r IsRefused
+module _ {P : Type 0} (p : Peer P) (x : P) (v : StoreState) (at : ℕ) (line : EntryLine) (text : List ℕ) (old new : Taking) (same : new.asked ≡ old.asked) (result : Result Unit FetchAnswer) (adds : AddsAny v at line text old new result) (of : IfErr result IsOfText) where
+  refused_of : (r : Result Unit FetchAnswer) → IfErr r IsOfText → IfErr r IsRefused
   refused_of (Ok _) is = tt
-  refused_of (Err why) is = text-refused why (is why refl)
+  refused_of (Err why) is = text-refused why is
 
   pub took-asked : Some text ≡ asked_text old.asked line.blob → TookUnread p x x v (IsNotOwn line) at line old new result
   took-asked found = record {
