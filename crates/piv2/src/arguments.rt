@@ -5,7 +5,7 @@ use arch_base::NoMemory;
 use archive_cli::{Job, print_no_memory, read_words, run};
 use disk_model::Disk;
 use edge_io::{Clock, Sink, Source};
-use real_edges::{Progress, SocketHost, SocketPeer};
+use real_edges::{Progress, SocketHost, SocketPeer, ToldPeer};
 use std::alloc::Global;
 use std::env::Args;
 use std::io::{self, ErrorKind};
@@ -74,7 +74,7 @@ fn run_words<D: Disk + Drop, S: Source, O: Sink, C: Clock>(
         Some(Serving { port, .. }) => port,
         None => FIRST_PORT,
     };
-    let Ok(mut peer) = peer_of(rt, &job) else {
+    let Ok(mut peer) = peer_of(rt, progress, &job) else {
         return (print_no_memory(out).code(), false);
     };
     match SocketHost::listen_telling(rt, alloc, port, progress) {
@@ -92,13 +92,18 @@ fn run_words<D: Disk + Drop, S: Source, O: Sink, C: Clock>(
 }
 
 /// Returns the peer that a job fetches from. Any other job asks none.
-fn peer_of(rt: &HostRuntime, job: &Option<Job>) -> Result<SocketPeer, NoMemory> {
+fn peer_of<'a>(
+    rt: &HostRuntime,
+    progress: &'a Progress,
+    job: &Option<Job>,
+) -> Result<ToldPeer<'a>, NoMemory> {
     let address = match job {
         // An address is ASCII.
         Some(Job::Fetch { address }) => str::from_utf8(address.as_slice()).unwrap_or(""),
         _ => "",
     };
-    SocketPeer::new(rt, rt.alloc(), address)
+    let peer = SocketPeer::new(rt, rt.alloc(), address)?;
+    Ok(ToldPeer::new(peer, progress))
 }
 
 /// Returns what a job serves, or `None` if it serves nothing.

@@ -24,12 +24,14 @@ mod sockets;
 mod std_sink;
 mod std_source;
 mod system_clock;
+mod told_peer;
 
 pub use folder_disk::FolderDisk;
 pub use names::{name_of, path_in};
-pub use progress::{Output, Progress, ReadSoFar};
+pub use progress::{FetchedSoFar, Output, Progress, ReadSoFar};
 pub use socket_host::SocketHost;
 pub use socket_peer::SocketPeer;
 pub use std_sink::StdSink;
 pub use std_source::StdSource;
 pub use system_clock::SystemClock;
+pub use told_peer::ToldPeer;

@@ -36,6 +36,43 @@ impl Display for ReadSoFar {
     }
 }
 
+/// How far a fetch is, in the words of the line of progress.
+#[derive(Clone, Copy, Drop)]
+pub struct FetchedSoFar {
+    /// The number of texts that came.
+    pub came: u64,
+    /// The number of messages that the list has.
+    pub listed: u64,
+}
+
+impl Display for FetchedSoFar {
+    fn fmt<W: fmt::Write>(&self, f: &mut fmt::Formatter<W>) -> fmt::Result {
+        let FetchedSoFar { came, listed } = *self;
+        write!(f, "{} of {} messages", Grouped(came), Grouped(listed))
+    }
+}
+
+/// A number, with a comma before each three digits.
+#[derive(Clone, Copy, Drop)]
+struct Grouped(u64);
+
+impl Display for Grouped {
+    fn fmt<W: fmt::Write>(&self, f: &mut fmt::Formatter<W>) -> fmt::Result {
+        let (millions, thousands, ones) = (
+            self.0 / 1_000_000,
+            self.0 / 1_000 % 1_000,
+            self.0 % 1_000,
+        );
+        if millions > 0 {
+            write!(f, "{millions},{thousands:03},{ones:03}")
+        } else if thousands > 0 {
+            write!(f, "{thousands},{ones:03}")
+        } else {
+            write!(f, "{ones}")
+        }
+    }
+}
+
 /// The standard error of a run: its lines, and the line of progress.
 ///
 /// The line of progress is shown on a terminal alone. It tells of a reading that takes longer than a
@@ -152,6 +189,13 @@ impl Progress {
     pub(crate) fn show_rewrite(&self, folder: &str) {
         if self.state.get().on {
             self.write(format_args!("writes the files of {folder} again"));
+        }
+    }
+
+    /// Shows how many texts of a fetch came, of so many messages that the list has, if it is due.
+    pub(crate) fn show_messages(&self, came: u64, listed: u64) {
+        if self.count(0) {
+            self.write(FetchedSoFar { came, listed });
         }
     }
 
