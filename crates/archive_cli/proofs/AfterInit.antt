@@ -42,7 +42,7 @@ use Rattle.archive_cli.specs.Jobs.{DueRule, ShortDue}
 use Rattle.archive_cli.specs.Laws.{NoneOrNew, LeavesNone, NoneDue, DueOn, EndedAsDue, FoundNone, FoundNew, RunAfterInit, Goes, unopened_by}
 use Rattle.archive_cli.specs.OpenedFiles.{LeavesFiles}
 use Rattle.archive_cli.specs.Outcomes.{outcome_line, status_of}
-use Rattle.archive_cli.specs.Peers.{AreFirst}
+use Rattle.archive_cli.specs.Peers.{ComeFirst}
 use Rattle.archive_cli.specs.Program.{RunState, JobEnds, InitLeaves, JobLeaves, IsDue, RunEnds, AsksForMessage, IsInput, IsOnArchive, WordsLeave, message_of, made_at, putting_answers, unasked}
 use Rattle.archive_cli.specs.Words.{AsksFor}
 use Rattle.archive_cli.proofs.OneJob.{same-asked}
@@ -268,7 +268,7 @@ module _ {D : Type 0} (g : Disk D) where
             | inr other ↦ inr (converted Sha256 a, goes-by keeps takes itself commands converts words k a (converted Sha256 a) (inr (inr (inr (inr (inr (inl (record { asked = asked; taken = other.0; is = refl }))))))), other.1)
           ])
 
-      module _ (address : List ℕ) (asked : AsksFor words (Fetch address)) (given : List Reply) (ahead : AreFirst given k.peer.left) where
+      module _ (address : List ℕ) (asked : AsksFor words (Fetch address)) (given : List Reply) (ahead : ComeFirst given k.peer.left) where
         new-source : (b : Archive) → (b ≡ a) ⊎ BecomesOver given a b → Goes words k a b
         new-source b (inl same) = goes-by keeps takes itself commands converts words k a b (inl same)
         new-source b (inr becomes) = goes-by keeps takes itself commands converts words k a b (inr (inr (inr (inr (inr (inr (record { address = address; asked = asked; given = given; first = ahead; becomes = becomes })))))))

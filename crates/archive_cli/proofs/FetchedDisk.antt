@@ -3,7 +3,8 @@ use Rattle.std.specs.Prelude.{◌≡◌, ◌⊎◌, ◌≤◌, ◌+◌, ◌-◌,
 use Rattle.std.proofs.Common.{◌∙◌, sym, ap, subst, append-nil, inl, inr, arith}
 use Rattle.arch_base.specs.Counts.{RoseIf}
 use Rattle.disk_model.specs.declared.disk.Disk.{Ghosts as Disk}
-use Rattle.disk_model.specs.Disk.{Files, Content, Image, WhereTold, ReadsFit}
+use Rattle.disk_model.specs.declared.name.FileName.{FileName}
+use Rattle.disk_model.specs.Disk.{Files, Content, Image, BothTold, WhereTold, ReadsFit}
 use Rattle.disk_model.specs.Moments.{LeavesOnly, started, weaker}
 use Rattle.root_slots.specs.OneRoot.{BeginsOneRoot}
 use Rattle.root_slots.specs.Sizes.{spelling_least}
@@ -24,7 +25,7 @@ use Rattle.store_finding.specs.Kept.{IsStoreWith, StoreState}
 use Rattle.store_finding.specs.Recovery.{RecoversWith}
 use Rattle.store_finding.proofs.FindingTold.{reads_none}
 use Rattle.epoch_store.specs.Commands.{RecoversOneOf, UnlessFailed}
-use Rattle.epoch_store.specs.Opens.{IsWant, OpensFiles, ReadsWith}
+use Rattle.epoch_store.specs.Opens.{IsOnlySynced, IsWant, OpensFiles, ReadsWith, RefusesBefore}
 use Rattle.epoch_store.specs.Promises.{ChangesStore, GoesOnBy, OpensArchive, Renews}
 use Rattle.fetch_course.specs.Peering.{PeerGave, replies_before, with_paths}
 use Rattle.fetch_course.specs.Courses.{AsksOn, ComesTo, FetchCourse, FetchLeads, FetchStage, HoldsAll}
@@ -32,7 +33,7 @@ use Rattle.fetch_course.specs.declared.answer.FetchAnswer.{FetchAnswer}
 use Rattle.fetch_course.specs.declared.answer.FetchAnswer.TheVariants as fetching
 use Rattle.mirror_fetch.specs.Fetching.{AnswersBy, DifferIf, Fetches, course_over, done_by, reached}
 use Rattle.archive_core.specs.Engines.{unchanged-is}
-use Rattle.archive_core.specs.Openings.{LeavesKindly}
+use Rattle.archive_core.specs.Openings.{LeavesKindly, StillReads}
 use Rattle.archive_core.proofs.Engines.{all_or_bare, either_of, stands_for, with_cache}
 use Rattle.archive_cli.specs.DiskCommands.{IsFault, IsOpenedAs, IsOwnDisk, RunsOrStays, StandsAs}
 use Rattle.archive_cli.specs.Fetches.{AnswersOver, BecomesOver, FetchActs, FetchLeaves, FetchStands, FetchesDisk, FetchesOn, FetchesOpened, FetchesTo, LeavesFetched}
@@ -47,6 +48,19 @@ unopened-fetches given put cache a opening.NoArchive old new reads want kind = a
 unopened-fetches given put cache a (opening.Damaged file at) old new reads want kind = absurd want
 unopened-fetches given put cache a opening.DiskFault old new reads want kind = tt
 unopened-fetches given put cache a opening.NoMemory old new reads want kind = kind.0 a cache reads
+
+-- Files that are only synced still read so.
+synced-reads : (old new : Option Content) → BothTold IsOnlySynced old new → StillReads old new
+synced-reads None new synced a cache reads = absurd reads
+synced-reads (Some k) None synced a cache reads = absurd synced
+synced-reads (Some k) (Some m) synced a cache reads = let one : as_read m ≡ as_read k = (λ i. λ (name : FileName). synced.seen name i) in subst (λ (files : Files). RecoversWith cache files a) (sym one) reads
+
+-- What a refusal of a store leaves.
+pub refused-kindly : (T : Type 0) (why : OpenRefusal) (old new : Option Content) → RefusesBefore {T = T} (Err why) old new → LeavesKindly why old new
+refused-kindly T opening.NoArchive old new kept = kept
+refused-kindly T (opening.Damaged file at) old new kept = kept
+refused-kindly T opening.DiskFault old new kept = tt
+refused-kindly T opening.NoMemory old new kept = (synced-reads old new kept, inl kept)
 
 -- A fetch wrote, or only read.
 wrote-or-read : (P Q : Type 0) (t : FetchAnswer) → UnlessFailed (done_by t) P → IfWrites t Q → P ⊎ Q

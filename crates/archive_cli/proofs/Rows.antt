@@ -40,7 +40,7 @@ use Rattle.archive_cli.specs.DiskCommands.{IsMadeDisk, MakesDisk, StandsAs, Stan
 use Rattle.archive_cli.specs.Laws.{WithMessage, WithRemoval, WithPurge, WithEdit, WithNewIds, WithSource, Goes, RunsInARow}
 use Rattle.archive_cli.specs.Fetches.{BecomesOver, FetchStands, FetchesOn}
 use Rattle.archive_cli.specs.Outcomes.{status_of}
-use Rattle.archive_cli.specs.Peers.{AreFirst}
+use Rattle.archive_cli.specs.Peers.{ComeFirst}
 use Rattle.archive_cli.specs.Program.{RunState, JobEnds, InitActs, CommandActs, MessageActs, ReindexActs, CheckActs, ConvertActs, FetchEnds, IsDue, RunEnds, Ran, IsInput, IsOnArchive, AsksForInit, AsksOfArchive, message_of, made_at, unasked, any_files, purge_files}
 use Rattle.archive_cli.specs.Statuses.{code_of}
 use Rattle.archive_cli.specs.Words.{AsksFor, IsJob, serve_word}
@@ -189,7 +189,7 @@ module _ (words : List (List ℕ)) (i : RunState) where
   steps-stayed s t a found same b (inl is) = (a, found, inl (is ∙ ap (λ (x : LastKnown). x.archive) same))
   steps-stayed s t a found same b (inr in_doubt) = absurd (let no : None ≡ Some b = sym (ap (λ (x : LastKnown). x.in_doubt) same) ∙ in_doubt in cc)
 
-  module _ (address : List ℕ) (asked : AsksFor words (Fetch address)) (given : List Reply) (first : AreFirst given i.peer.left) where
+  module _ (address : List ℕ) (asked : AsksFor words (Fetch address)) (given : List Reply) (first : ComeFirst given i.peer.left) where
     from-source : (a b c : Archive) → b ≡ c → BecomesOver given a c → FromBy words i a b
     from-source a b c is becomes = inr (inr (inr (inr (inr (inr (record { address = address; asked = asked; given = given; first = first; becomes = subst (BecomesOver given a) (sym is) becomes }))))))
 

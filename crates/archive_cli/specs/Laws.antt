@@ -31,7 +31,7 @@ use Rattle.archive_cli.specs.Conversions.{TakesConversion}
 use Rattle.archive_cli.specs.DiskCommands.{TakesTo, ReindexesTo, ChecksTo, ConvertsTo, delivering, removing, purging, editing}
 use Rattle.archive_cli.specs.Fetches.{BecomesOver, FetchesTo}
 use Rattle.archive_cli.specs.Jobs.{DueRule, ShortDue}
-use Rattle.archive_cli.specs.Peers.{PeerState, PeerGives, AreFirst}
+use Rattle.archive_cli.specs.Peers.{PeerState, PeerGives, ComeFirst}
 use Rattle.archive_cli.specs.Outcomes.{outcome_line, status_of}
 use Rattle.archive_cli.specs.Statuses.{code_of}
 use Rattle.archive_cli.specs.Words.{AsksFor, IsJob}
@@ -92,7 +92,7 @@ pub record WithSource (words : List (List ℕ)) (i : RunState) (old new : Archiv
   pub address : List ℕ
   pub asked : AsksFor words (Fetch address)
   pub given : List Reply
-  pub first : AreFirst given i.peer.left
+  pub first : ComeFirst given i.peer.left
   pub becomes : BecomesOver given old new
 
 -- The archive is the same, as after a reindexing or a check, or what the command, the conversion or the fetch

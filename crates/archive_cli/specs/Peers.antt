@@ -26,5 +26,5 @@ pub record PeerGives (old new : PeerState) (given : List Reply) (put : List (Lis
   pub asked : new.asked ≡ with_paths old.asked put
 
 -- These replies are the first of those to come, if they are told.
-abbrev pub AreFirst : List Reply → Option (List Reply) → Type 0
-AreFirst given left = (more : Option (List Reply)) × (left ≡ replies_before given more)
+abbrev pub ComeFirst : List Reply → Option (List Reply) → Type 0
+ComeFirst given left = (more : Option (List Reply)) × (left ≡ replies_before given more)

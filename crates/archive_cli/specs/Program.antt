@@ -30,7 +30,7 @@ use Rattle.archive_core.specs.Commands.{AnswersDelivery, AnswersEdit, AnswersPur
 use Rattle.answer_lines.specs.Lines.{whole_line}
 use Rattle.archive_cli.specs.DiskCommands.{MakesDisk, TakesTo, ReindexesTo, ChecksTo, IsOpenedAs, IsFault, IsReply, IsReindex, IsCheck, IsConversion, StandsAs, CommandTakes, ReindexesOn, ChecksOn, ConvertsOn, ConvertsTo, RunsOrStays, LeavesConverted, LeavesEither, delivering, removing, purging, editing}
 use Rattle.archive_cli.specs.OpenedFiles.{CommitsIfConverted, CommitsIfDone, LeavesFiles}
-use Rattle.archive_cli.specs.Peers.{PeerState, PeerGives, AreFirst, no_peer, peer_state}
+use Rattle.archive_cli.specs.Peers.{PeerState, PeerGives, ComeFirst, no_peer, peer_state}
 use Rattle.archive_cli.specs.Fetches.{FetchActs, LeavesFetched}
 use Rattle.archive_cli.specs.Loading.{loaded_line}
 use Rattle.fetch_course.specs.declared.answer.FetchAnswer.TheVariants as fetching
@@ -563,7 +563,7 @@ module _ {D : Type 0} (g : Disk D) where
   JobLeaves (Some Check) old new left coming replies = SyncsAtMost g old new
   JobLeaves (Some Convert) old new left coming replies = RunsOrStays g old new LeavesConverted
   JobLeaves (Some (Fetch address)) old new left coming replies = (given : List Reply)
-      × AreFirst given replies × RunsOrStays g old new (LeavesFetched given)
+      × ComeFirst given replies × RunsOrStays g old new (LeavesFetched given)
   JobLeaves (Some (Serve turns port)) old new left coming replies = Unit {0}
   JobLeaves other old new left coming replies = new ≡ old
 

@@ -42,7 +42,8 @@ fn fetched<D: Disk, P: Peer>(alloc: Global, store: Store, disk: &mut D, peer: &m
     requires sizes { WhereTold (StoreHasSizes store) (D.content disk.old) }
     ensures { FetchesOpened D.Disk P.Peer store disk.old disk.new peer.old peer.new result }
 {
-    if store.sequence() == u64::MAX {
+    let is_last = store.sequence() == u64::MAX;
+    if is_last {
         return FetchAnswer::NoMemory;
     }
     let mut store = store;

@@ -1,12 +1,11 @@
 use Rattle.root_slots.proofs.OneRoots.{none_begins}
-use Rattle.std.proofs.Common.{[], ◌×◌, Err, inl}
+use Rattle.std.proofs.Common.{[], Err, inl}
 use Rattle.arch_judge.specs.declared.index.Index.{Index}
 use Rattle.store_finding.specs.Kept.{StoreState}
-use Rattle.archive_core.proofs.Openings.{refused_kindly}
 use Rattle.archive_cli.specs.Fetches.{LeavesFetched}
 use Rattle.archive_cli.proofs.Committing.{opened-none}
 use Rattle.archive_cli.proofs.OnDisk.{unfetched-cause, unopened-leaves, unopened-stands}
-use Rattle.archive_cli.proofs.FetchedDisk.{fetch-cause, fetch-disk, fetched-peer, unfetched-disk, unfetched-peer, unopened-fetches}
+use Rattle.archive_cli.proofs.FetchedDisk.{fetch-cause, fetch-disk, fetched-peer, refused-kindly, unfetched-disk, unfetched-peer, unopened-fetches}
 use Rattle.archive_cli.proofs.fetching.fetch_archive.Goals as goal
 
 pub returns-in-Ok-clause-fetched : goal.returns-in-Ok-clause-fetched
@@ -21,7 +20,7 @@ returns-in-Ok-clause-peer_cause g c = fetched-peer (g.P.Peer.faults c.args.peer.
 pub returns-in-Err-clause-fetched : goal.returns-in-Err-clause-fetched
 returns-in-Err-clause-fetched g c =
     let opened = c.in-Err.ensures.opened in
-    let kindly = refused_kindly (StoreState × Index) c.in-Err.why (g.D.Disk.content c.args.disk) (g.D.Disk.content c.open.new.disk) c.in-Err.ensures.refused in
+    let kindly = refused-kindly (StoreState × Index) c.in-Err.why (g.D.Disk.content c.args.disk) (g.D.Disk.content c.open.new.disk) c.in-Err.ensures.refused in
     unfetched-disk g.D.Disk g.P.Peer c.args.disk c.open.new.disk c.args.peer.now c.in-Err.why (λ moment. record {
       kind = tt;
       done = λ a cache reads. unopened-fetches [] [] cache a c.in-Err.why (g.D.Disk.content c.args.disk) (g.D.Disk.content c.open.new.disk) reads (opened.well a cache reads) kindly;
