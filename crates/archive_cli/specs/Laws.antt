@@ -122,8 +122,8 @@ pub record IsLeft (first second third : List (List ℕ)) (i k m : RunState) (ima
   pub stands : Recovers image two
 
 -- Three runs on one disk: `init` that ends with status 0, and two jobs on the archive, each `deliver`,
--- `remove`, `purge`, `edit`, `reindex`, `check`, `convert` or `fetch`, however these end. So the first of them
--- may be stopped by a fault of the disk, and may have been done or not; then the second one found its
+-- `remove`, `purge`, `edit`, `reindex`, `check`, `convert` or `fetch`, however these end. So the first of
+-- them may be stopped by a fault of the disk, and may have been done or not; then the second one found its
 -- archive, or the one without messages, and each crash after it leaves that one or what the second
 -- one makes of it.
 abbrev pub RunsInARow : Type 0
@@ -207,8 +207,8 @@ module _ {D : Type 0} (g : Disk D) where
 
   -- Two runs on one disk that tells its content, of which each crash left no open slot: `init`, however
   -- it ends, so also by a fault of the disk that leaves it in doubt; and a command, `reindex`, `check`,
-  -- `convert` or `fetch`. The second one finds no archive where no slot is open as the files read, and otherwise the
-  -- one that `init` makes.
+  -- `convert` or `fetch`. The second one finds no archive where no slot is open as the files read, and
+  -- otherwise the one that `init` makes.
   abbrev pub RunAfterInit : Type 0
   RunAfterInit = (first second : List (List ℕ)) (config : Config) (job : Job) (a b : ℕ)
       (i j k l : RunState) (old made from next : D) (c : Content)

@@ -170,9 +170,9 @@ pub(crate) fn default_config(name: Name) -> Config
 /// Returns what these words ask for, or `None` if they aren't in the grammar.
 ///
 /// The grammar is `--help`, `--version`, `deliver`, `reindex`, `check`, `convert`, `fetch`, `serve`,
-/// `remove`, `purge` or `edit` with a number from 1 to 2,147,483,647, `load` with a count from 1 to 20,000 and a
-/// seed, or `init` or `replay` with the name of an archive and options. Each option comes at most once,
-/// in any order:
+/// `remove`, `purge` or `edit` with a number from 1 to 2,147,483,647, `load` with a count from 1 to 20,000
+/// and a seed, or `init` or `replay` with the name of an archive and options. Each option comes at most
+/// once, in any order:
 ///
 /// * `limit=N`: 1 to 1,099,511,627,776, by default 1,073,741,824;
 /// * `slice=N`: 1 to 1,000,000, by default 50,000;
