@@ -40,7 +40,7 @@ use Rattle.fetch_course.specs.Laws.{HoldsFollowers}
 use Rattle.fetch_course.specs.Peering.{PeerGave}
 use Rattle.fetch_course.proofs.Lines.{unless_holds}
 use Rattle.mirror_fetch.specs.Fetching.{AnswersBy, DifferIf, Fetches, IfAdopted, ReadsFirst, WentBy, course_over, done_by, mirror_course, reached}
-use Rattle.mirror_fetch.specs.Taking.{AnswersAdoption, EndsAs, FetchGoes, IsEndOf, IsRefused, PlannedFetch}
+use Rattle.mirror_fetch.specs.Taking.{AnswersAdoption, EndsAs, FetchGoes, IsEndOf, IsRefused, PlannedFetch, answer_by}
 use Rattle.mirror_fetch.specs.declared.taking.Planned.{Planned}
 use Rattle.mirror_fetch.proofs.Took.{form-of}
 
@@ -375,3 +375,29 @@ module _ {D P : Type 0} {g : Disk D} {p : Peer P} {disk mid new : D} {x y : P} {
           kept = λ never. peer_rose.kept (λ same. absurd (cc same));
         };
       }
+
+-- Damage, which never comes on the disk of an archive, is answered as want of memory.
+pub damage-less : {D : Type 0} {g : Disk D} {old new : D} {v after : StoreState} {Makes : Archive → Archive → Type 0} (why : StoreRefusal) → ChangesStore g old new v after Renews Makes (Err why) → ChangesStore g old new v after Renews Makes (done_by (answer_by why))
+damage-less refusal.DiskFault c = c
+damage-less refusal.NoMemory c = c
+damage-less (refusal.Damaged file at) c = record {
+  crash = c.crash;
+  done = λ a b cache store room made. tt;
+  settled = tt;
+  sizes = tt;
+  goes_on = tt;
+  slot = tt;
+  same = c.same;
+  untouched = c.untouched;
+  undamaged = λ a cache store. tt;
+  cause = record { later = c.cause.later; failed = λ fault. absurd (cc fault); kept = λ never. c.cause.kept (λ fault. absurd (cc fault)) };
+  count = c.count;
+  rooted = tt;
+  crash_root = c.crash_root;
+  damage = tt;
+}
+
+pub adoption-answer : (changed : Bool) (why : StoreRefusal) → AnswersAdoption changed (answer_by why)
+adoption-answer changed refusal.DiskFault = tt
+adoption-answer changed refusal.NoMemory = tt
+adoption-answer changed (refusal.Damaged file at) = tt

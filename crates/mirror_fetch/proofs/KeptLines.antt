@@ -63,6 +63,21 @@ module _ (form : Form) (es : List Entry) (e : Entry) (line : EntryLine) (index :
       fits_by (length e.text == line.size) (is_own_form (storage_form e.text) e.text) (is_some (own_id e.text)) (is_message line.kind && is_id_taken (live es) (own_id e.text)) (own_form (storage_form e.text) e.text valid.text.form) valid.text.id
       ∙ ap (λ (t : Bool). not (length e.text == line.size) || (is_message line.kind && t)) taken_is
 
+  -- By what is kept of it.
+  module _ (s : StoredEntry) (is : s ≡ stored_at form es e) where
+    size_is : s.seen.size ≡ length e.text
+    size_is = ap (λ (x : StoredEntry). x.seen.size) is
+
+    test_is : (t : Bool) → (s.seen.size == line.size) ≡ t → (length e.text == line.size) ≡ t
+    test_is t test = ap (λ (n : ℕ). n == line.size) (sym size_is) ∙ test
+
+    pub kept-size : (s.seen.size == line.size) ≡ false → true ≡ misfits es line e.text
+    kept-size test = sym (kept-fits ∙ ap (λ (t : Bool). not t || (is_message line.kind && is_some (owner_in index.owners id))) (test_is false test))
+
+    pub kept-other : (b : Bool) → (s.seen.size == line.size) ≡ true → b ≡ (is_message line.kind && is_some (owner_in index.owners s.seen.id)) → b ≡ misfits es line e.text
+    kept-other b test other = sym (kept-fits ∙ (ap (λ (t : Bool). not t || (is_message line.kind && is_some (owner_in index.owners id))) (test_is true test)
+        ∙ (ap (λ (i : List ℕ). is_message line.kind && is_some (owner_in index.owners i)) (sym (ap (λ (x : StoredEntry). x.seen.id) is)) ∙ sym other)))
+
 -- The commit of an entry that is kept on a line is that of the line's rules.
 pub kept-commit : (form : Form) (es : List Entry) (e : Entry) (s : StoredEntry) (line : EntryLine) → s ≡ stored_at form es e → IsOnLine s line → s.seen.commit ≡ commit_on form es line e.text
 kept-commit form es e s line is on =

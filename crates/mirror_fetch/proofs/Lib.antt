@@ -10,3 +10,5 @@ mod Listed
 mod TextsTook
 mod KeptLines
 mod Lists
+mod Starts
+mod SameLines

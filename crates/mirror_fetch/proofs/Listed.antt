@@ -136,3 +136,28 @@ module _ {P : Type 0} (p : Peer P) (x y : P) (name : List ℕ) (form : Form) (pa
 -- The answers by a reply are no fault of the peer.
 pub reading-no-peer : (why : FetchAnswer) → IsOfReading why → why ≡ answer.PeerFault → ⊥
 reading-no-peer why of same = subst IsOfReading same of
+
+-- A reply that is read.
+pub bad-reply : (form : Form) (reply : Reply) → (reply.status == 200) ≡ false → ReadsReply form reply (Err (answer.BadReply reply.status))
+bad-reply form reply no = (
+  Err list.NoMemory,
+  (λ good. absurd (let wrong : true ≡ false = sym good ∙ no in cc)),
+  (λ a replies. ap (λ (t : Bool). if t then read_course a replies (Err list.NoMemory) else comes_to (answer.BadReply reply.status)) no),
+  tt,
+)
+
+pub bad-list : (form : Form) (reply : Reply) (n : ℕ) → (reply.status == 200) ≡ true → ReadsList form reply.body (Err (list.BadList n)) → ReadsReply form reply (Err (answer.BadList n))
+bad-list form reply n yes bad = (
+  Err (list.BadList n),
+  (λ good. bad),
+  (λ a replies. ap (λ (t : Bool). if t then read_course a replies (Err (list.BadList n)) else comes_to (answer.BadReply reply.status)) yes),
+  tt,
+)
+
+pub no-memory : (form : Form) (reply : Reply) → (reply.status == 200) ≡ true → ReadsReply form reply (Err answer.NoMemory)
+no-memory form reply yes = (
+  Err list.NoMemory,
+  (λ good. tt),
+  (λ a replies. ap (λ (t : Bool). if t then read_course a replies (Err list.NoMemory) else comes_to (answer.BadReply reply.status)) yes),
+  tt,
+)
