@@ -44,7 +44,7 @@ use Rattle.mirror_fetch.specs.Taking.{AnswersAdoption, EndsAs, FetchGoes, IsEndO
 use Rattle.mirror_fetch.specs.declared.taking.Planned.{Planned}
 use Rattle.mirror_fetch.proofs.Took.{form-of}
 
--- A disk that reads as before tells the same.
+-- A disk that reads fit before tells the same.
 one_content : (k m : Content) → Unchanged k m → m ≡ k
 one_content k m same = λ i. λ (name : FileName). same name i
 
@@ -223,9 +223,6 @@ holds_same a b same = cc
 
 -- What was planned was adopted, or wasn't.
 module _ {D P : Type 0} {g : Disk D} {p : Peer P} {disk mid new : D} {x y : P} {v after : StoreState} (law : HoldsFollowers) (only : OnlyReads g disk mid) (fewest : g.reads disk ≤ g.reads mid) (steady : g.faults mid ≡ g.faults disk) (plan : Planned) (planned : PlannedFetch p x y v (g.content disk) (Ok plan)) where
-  abbrev given : List Reply
-  given = planned.given
-
   abbrev course : Archive → FetchCourse
   course a = course_over a planned.given planned.read
 
@@ -293,42 +290,42 @@ module _ {D P : Type 0} {g : Disk D} {p : Peer P} {disk mid new : D} {x y : P} {
 
   -- The answer after it.
   adopt_answers : (told : FetchAnswer) (a : Archive) (cache : List ℕ) (store : IsStoreWith v cache a (g.content disk)) → AnswersAdoption plan.changed told → AnswersBy a (course a).stage told
-  adopt_answers (answer.Ok told) a cache store as = (
+  adopt_answers (answer.Ok told) a cache store fit = (
     archive_with a ((went_so a cache store).2.0) plan.next,
     stage_is a cache store,
-    subst (λ (t : Bool). DifferIf t a (archive_with a ((went_so a cache store).2.0) plan.next)) (sym as) ((went_so a cache store).2.3),
+    subst (λ (t : Bool). DifferIf t a (archive_with a ((went_so a cache store).2.0) plan.next)) (sym fit) ((went_so a cache store).2.3),
   )
-  adopt_answers answer.DiskFault a cache store as = tt
-  adopt_answers answer.NoMemory a cache store as = tt
-  adopt_answers answer.NotMirror a cache store as = absurd as
-  adopt_answers answer.PeerFault a cache store as = absurd as
-  adopt_answers (answer.BadReply status) a cache store as = absurd as
-  adopt_answers (answer.BadList line) a cache store as = absurd as
-  adopt_answers (answer.WrongId listed found) a cache store as = absurd as
-  adopt_answers (answer.Changed id) a cache store as = absurd as
-  adopt_answers (answer.Renamed number had offered) a cache store as = absurd as
-  adopt_answers (answer.Revived number) a cache store as = absurd as
-  adopt_answers (answer.Behind had offered) a cache store as = absurd as
-  adopt_answers (answer.BadCommit listed computed) a cache store as = absurd as
+  adopt_answers answer.DiskFault a cache store fit = tt
+  adopt_answers answer.NoMemory a cache store fit = tt
+  adopt_answers answer.NotMirror a cache store fit = absurd fit
+  adopt_answers answer.PeerFault a cache store fit = absurd fit
+  adopt_answers (answer.BadReply status) a cache store fit = absurd fit
+  adopt_answers (answer.BadList line) a cache store fit = absurd fit
+  adopt_answers (answer.WrongId listed found) a cache store fit = absurd fit
+  adopt_answers (answer.Changed id) a cache store fit = absurd fit
+  adopt_answers (answer.Renamed number had offered) a cache store fit = absurd fit
+  adopt_answers (answer.Revived number) a cache store fit = absurd fit
+  adopt_answers (answer.Behind had offered) a cache store fit = absurd fit
+  adopt_answers (answer.BadCommit listed computed) a cache store fit = absurd fit
 
 -- The result of the store by such an answer.
 adopt_fault : (changed : Bool) (told : FetchAnswer) → AnswersAdoption changed told → done_by told ≡ Err refusal.DiskFault → told ≡ answer.DiskFault
-adopt_fault changed (answer.Ok t) as same = absurd (cc)
-adopt_fault changed answer.DiskFault as same = refl
-adopt_fault changed answer.NoMemory as same = absurd (cc)
-adopt_fault changed answer.NotMirror as same = absurd as
-adopt_fault changed answer.PeerFault as same = absurd as
-adopt_fault changed (answer.BadReply status) as same = absurd as
-adopt_fault changed (answer.BadList line) as same = absurd as
-adopt_fault changed (answer.WrongId listed found) as same = absurd as
-adopt_fault changed (answer.Changed id) as same = absurd as
-adopt_fault changed (answer.Renamed number had offered) as same = absurd as
-adopt_fault changed (answer.Revived number) as same = absurd as
-adopt_fault changed (answer.Behind had offered) as same = absurd as
-adopt_fault changed (answer.BadCommit listed computed) as same = absurd as
+adopt_fault changed (answer.Ok t) fit same = absurd (cc)
+adopt_fault changed answer.DiskFault fit same = refl
+adopt_fault changed answer.NoMemory fit same = absurd (cc)
+adopt_fault changed answer.NotMirror fit same = absurd fit
+adopt_fault changed answer.PeerFault fit same = absurd fit
+adopt_fault changed (answer.BadReply status) fit same = absurd fit
+adopt_fault changed (answer.BadList line) fit same = absurd fit
+adopt_fault changed (answer.WrongId listed found) fit same = absurd fit
+adopt_fault changed (answer.Changed id) fit same = absurd fit
+adopt_fault changed (answer.Renamed number had offered) fit same = absurd fit
+adopt_fault changed (answer.Revived number) fit same = absurd fit
+adopt_fault changed (answer.Behind had offered) fit same = absurd fit
+adopt_fault changed (answer.BadCommit listed computed) fit same = absurd fit
 
 no_peer : (changed : Bool) (told : FetchAnswer) → AnswersAdoption changed told → told ≡ answer.PeerFault → ⊥
-no_peer changed told as same = subst (AnswersAdoption changed) same as
+no_peer changed told fit same = subst (AnswersAdoption changed) same fit
 
 all_adopted : (told : FetchAnswer) → IfAdopted told (◌≡◌ {A = List (List ℕ)} [] [])
 all_adopted (answer.Ok t) = refl
@@ -351,7 +348,7 @@ module _ {D P : Type 0} {g : Disk D} {p : Peer P} {disk mid new : D} {x y : P} {
   steady_disk = disk_rose.kept (λ same. absurd (cc same))
 
   pub fetch-adopted : (told : FetchAnswer) → AnswersAdoption plan.changed told → ChangesStore g mid new v after Renews (Adopts v plan.adoption plan.next (g.content mid)) (done_by told) → Fetches g p disk new v after x y told
-  fetch-adopted told as carried =
+  fetch-adopted told fit carried =
       let changes = adopted-changes law only fewest steady_disk plan planned carried in
       record {
         given = planned.given;
@@ -360,7 +357,7 @@ module _ {D P : Type 0} {g : Disk D} {p : Peer P} {disk mid new : D} {x y : P} {
         gave = planned.gave;
         reads = planned.reads;
         leads = leads-so law v (g.content disk) planned.given planned.read planned.reads;
-        answered = λ a cache store. adopt_answers law only fewest steady_disk plan planned told a cache store as;
+        answered = λ a cache store. adopt_answers law only fewest steady_disk plan planned told a cache store fit;
         went = λ a cache store. record {
           others = [];
           is = ap (λ (c : FetchCourse). c.asked) ((went_so law only fewest steady_disk plan planned a cache store).2.2) ∙ sym (append-nil planned.put);
@@ -368,15 +365,15 @@ module _ {D P : Type 0} {g : Disk D} {p : Peer P} {disk mid new : D} {x y : P} {
         };
         follows = follows-so law v (g.content disk) planned.given planned.read planned.reads;
         changes = changes;
-        disk_cause = rose_so (g.faults disk) (g.faults new) (adopt_fault plan.changed told as) (λ same. ap done_by same) changes.cause;
+        disk_cause = rose_so (g.faults disk) (g.faults new) (adopt_fault plan.changed told fit) (λ same. ap done_by same) changes.cause;
         peer_cause = record {
           later = peer_rose.later;
-          failed = λ fault. absurd (no_peer plan.changed told as fault);
+          failed = λ fault. absurd (no_peer plan.changed told fit fault);
           kept = λ never. peer_rose.kept (λ same. absurd (cc same));
         };
       }
 
--- Damage, which never comes on the disk of an archive, is answered as want of memory.
+-- Damage, which never comes on the disk of an archive, is answered fit want of memory.
 pub damage-less : {D : Type 0} {g : Disk D} {old new : D} {v after : StoreState} {Makes : Archive → Archive → Type 0} (why : StoreRefusal) → ChangesStore g old new v after Renews Makes (Err why) → ChangesStore g old new v after Renews Makes (done_by (answer_by why))
 damage-less refusal.DiskFault c = c
 damage-less refusal.NoMemory c = c

@@ -12,3 +12,4 @@ mod KeptLines
 mod Lists
 mod Starts
 mod SameLines
+mod Added

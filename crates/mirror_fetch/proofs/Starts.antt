@@ -1,20 +1,17 @@
 -- Before the first line of a list.
-use Rattle.std.proofs.Common.{inl, ◌≡◌, ◌<◌, ℕ, List, [], Option, Some, None, refl, sym, ap, subst, ◌∙◌, arith, take}
+use Rattle.std.proofs.Common.{inl, ◌≡◌, ℕ, List, [], Some, None, refl, sym, ap, subst, arith}
 use Rattle.arch_base.specs.declared.config.Config.{Config}
 use Rattle.arch_base.specs.declared.ids.ObjectId.{ObjectId}
-use Rattle.arch_judge.specs.declared.index.Index.{Index}
 use Rattle.disk_model.specs.Disk.{Content}
-use Rattle.arch_model.specs.Archives.{Entry, Archive}
+use Rattle.arch_model.specs.Archives.{Archive}
 use Rattle.epoch_file.specs.Planning.{texts_in}
-use Rattle.root_change.specs.Rewriting.{Plan}
 use Rattle.store_finding.specs.Kept.{IsDiskWith, StoreState}
 use Rattle.store_finding.specs.Indexes.{IndexesStored}
-use Rattle.store_finding.specs.declared.entries.StoredEntry.{StoredEntry}
 use Rattle.store_finding.proofs.Indexes.{indexes_none}
-use Rattle.store_planning.specs.Planning.{IsKeptUpTo, Planning, no_planning}
+use Rattle.store_planning.specs.Planning.{IsKeptUpTo, no_planning}
 use Rattle.epoch_store.specs.Adopting.{AdoptionState, IsAdoptionOf, PlansAdopted}
 use Rattle.mirror_fetch.specs.Own.{AskedWithin, asked_text}
-use Rattle.mirror_fetch.specs.Taking.{IsTakingOf, StartsTaking, TookEntries}
+use Rattle.mirror_fetch.specs.Taking.{IsTakingOf, StartsTaking}
 use Rattle.mirror_fetch.specs.declared.taking.Taking.{Taking}
 
 kept_none : (k : Content) (v : StoreState) (cache : List ℕ) (a : Archive) → IsDiskWith v cache a k → IsKeptUpTo (texts_in k) v.root a [] [] (no_planning v.root.config.form)

@@ -1,6 +1,6 @@
 //! Asks for a list, and tells whether it is the store's own.
 //! Allocates.
-ghost use Rattle.std.specs.Prelude.{◌≡◌, Err, IfOk, IsFalse, IsTrue};
+ghost use Rattle.std.specs.Prelude.{◌≡◌, ◌≢◌, Err, IfOk, IsFalse, IsTrue};
 ghost use Rattle.arch_base.specs.Counts.{RoseIf};
 ghost use Rattle.fetch_course.specs.declared.answer.FetchAnswer.{FetchAnswer as Answer};
 ghost use Rattle.epoch_store.specs.Reads.{line_of};
@@ -27,6 +27,7 @@ pub(crate) fn ask_list<P: Peer>(
 ) -> Result<MirrorList, FetchAnswer>
     ensures valid { IfOk result (IsMirrorList config.now.form) }
     ensures asks { AsksList P.Peer peer.old peer.new config.now.name config.now.form result }
+    ensures disk { result ≢ Err Answer.DiskFault }
     ensures cause { RoseIf (result ≡ Err Answer.PeerFault) (P.faults peer.old) (P.faults peer.new) }
 {
     let path = match list_path(alloc, &config.name) {
