@@ -1,5 +1,5 @@
 -- A list that was read: what is wrong with it, or where its lines lead.
-use Rattle.std.proofs.Common.{◌≡◌, ℕ, List, [], ◌++◌, Option, Some, None, Result, Ok, Err, refl, sym, ap, subst, ◌∙◌, true, false, Bool, if◌then◌else◌}
+use Rattle.std.proofs.Common.{arith, ◌≡◌, ℕ, List, [], ◌++◌, Option, Some, None, Result, Ok, Err, refl, sym, ap, subst, ◌∙◌, true, false, Bool, if◌then◌else◌}
 use Rattle.arch_base.specs.Counts.{RoseIf}
 use Rattle.arch_base.specs.declared.config.Config.{Config}
 use Rattle.disk_model.specs.Disk.{Content}
@@ -22,6 +22,7 @@ use Rattle.mirror_fetch.specs.Listing.{AsksList, kept_lines}
 use Rattle.mirror_fetch.specs.Own.{OwnAre}
 use Rattle.mirror_fetch.specs.Taking.{EndsAs, IsEndOf, IsRefused, PlannedFetch, TookLines, TookList}
 use Rattle.mirror_fetch.specs.declared.own.Own.{Own}
+use Rattle.mirror_fetch.specs.declared.taking.Planned.{Planned}
 use Rattle.mirror_fetch.specs.declared.taking.Taking.{Taking}
 use Rattle.mirror_fetch.proofs.Changed.{tells-change}
 use Rattle.mirror_fetch.proofs.Gave.{gave-both, gave-none}
