@@ -1,13 +1,14 @@
 -- What a fetch promises, from what was planned and what was adopted.
-use Rattle.std.proofs.Common.{inl, inr, ◌≡◌, ◌≢◌, ◌⊎◌, ◌+◌, ◌-◌, ◌<◌, ◌≤◌, ◌==◌, ◌^◌, ℕ, Bool, true, false, List, [], ◌∷◌, ◌++◌, Option, Some, None, Result, Ok, Err, OnOk, IfErr, refl, sym, ap, subst, ◌∙◌, arith, append-nil, if◌then◌else◌}
+use Rattle.std.proofs.Common.{◌≡◌, ◌≢◌, ◌+◌, ◌-◌, ◌<◌, ◌≤◌, ◌==◌, ◌^◌, ℕ, Bool, true, false, List, [], ◌∷◌, Option, Some, None, Result, Ok, Err, refl, sym, ap, subst, ◌∙◌, arith, append-nil, if◌then◌else◌}
 use Rattle.std.specs.Bool.{MatchBool}
+use Rattle.std.proofs.lemmas.Option.{same_Some}
 use Rattle.std.proofs.lemmas.Result.{on_ok_weaker}
 use Rattle.arch_base.specs.Counts.{RoseIf}
 use Rattle.arch_base.specs.declared.ids.Form.{Form}
 use Rattle.disk_model.specs.declared.disk.Disk.{Ghosts as Disk}
 use Rattle.disk_model.specs.declared.name.FileName.{FileName}
-use Rattle.disk_model.specs.Disk.{BothTold, Content, Files, Image, Kept, Unchanged, WhereTold, bytes_of}
-use Rattle.disk_model.specs.Moments.{LeavesOnly, joined, weaker}
+use Rattle.disk_model.specs.Disk.{BothTold, Content, Kept, Unchanged, WhereTold, bytes_of}
+use Rattle.disk_model.specs.Moments.{LeavesOnly, joined}
 use Rattle.disk_model.specs.Tells.{told_then}
 use Rattle.arch_model.specs.Archives.{Entry, Archive}
 use Rattle.arch_model.specs.Following.{Follows}
@@ -27,24 +28,22 @@ use Rattle.root_slots.specs.Spelling.{spelling}
 use Rattle.store_finding.specs.Kept.{IsDiskWith, IsStoreWith, StoreState}
 use Rattle.store_finding.proofs.FindingTold.{reads_both}
 use Rattle.store_planning.specs.DamagedTexts.{IfDamaged, IsDamageIn}
-use Rattle.epoch_store.specs.Adopting.{AdoptionState, Adopts, PlansAdopted}
+use Rattle.epoch_store.specs.Adopting.{Adopts, PlansAdopted}
 use Rattle.epoch_store.specs.Commands.{RecoversOneOf, UnlessFailed}
-use Rattle.epoch_store.specs.Laws.{StoreRecovers}
 use Rattle.epoch_store.specs.Promises.{ChangesStore, Renews}
 use Rattle.epoch_store.proofs.Changing.{unplanned}
 use Rattle.epoch_store.proofs.Readying.{read_begins}
 use Rattle.fetch_course.specs.declared.answer.FetchAnswer.{FetchAnswer}
 use Rattle.fetch_course.specs.declared.answer.FetchAnswer.TheVariants as answer
-use Rattle.fetch_course.specs.Courses.{FetchCourse, FetchLeads, FetchStage, AsksOn, ComesTo, HoldsAll, ListLeads, MirrorLeads, after_paths, archive_with, comes_to, lines_course, read_course, wrong_list}
+use Rattle.fetch_course.specs.Courses.{FetchCourse, FetchLeads, FetchStage, AsksOn, ComesTo, HoldsAll, MirrorLeads, archive_with, comes_to, lines_course, read_course, wrong_list}
 use Rattle.fetch_course.specs.Laws.{HoldsFollowers}
-use Rattle.fetch_course.specs.Peering.{PeerGave}
 use Rattle.fetch_course.proofs.Lines.{unless_holds}
-use Rattle.mirror_fetch.specs.Fetching.{AnswersBy, DifferIf, Fetches, IfAdopted, ReadsFirst, WentBy, course_over, done_by, mirror_course, reached}
+use Rattle.mirror_fetch.specs.Fetching.{AnswersBy, DifferIf, Fetches, IfAdopted, ReadsFirst, course_over, done_by, mirror_course, reached}
 use Rattle.mirror_fetch.specs.Taking.{AnswersAdoption, EndsAs, FetchGoes, IsEndOf, IsRefused, PlannedFetch}
 use Rattle.mirror_fetch.specs.declared.taking.Planned.{Planned}
 use Rattle.mirror_fetch.proofs.Took.{form-of}
 
--- A disk that reads as before tells the same.
+-- A disk that reads fit before tells the same.
 one_content : (k m : Content) → Unchanged k m → m ≡ k
 one_content k m same = λ i. λ (name : FileName). same name i
 
@@ -178,11 +177,13 @@ told_store : (v : StoreState) (Q : Content → List ℕ → Archive → Type 0) 
 told_store v Q None told a cache store = absurd store
 told_store v Q (Some k) told a cache store = (k, refl, told cache a store)
 
-module _ {D P : Type 0} {g : Disk D} {p : Peer P} {disk mid : D} {x y : P} {v : StoreState} (law : HoldsFollowers) (only : OnlyReads g disk mid) (fewest : g.reads disk ≤ g.reads mid) where
+-- A fetch that ended before anything was written.
+module _ {D : Type 0} {g : Disk D} {disk mid : D} {v : StoreState} (only : OnlyReads g disk mid) (fewest : g.reads disk ≤ g.reads mid) where
   stopped_by : {Makes : Archive → Archive → Type 0} (fault : Bool) → RoseIf (◌≡◌ {A = Result (Unit {0}) StoreRefusal} (Err (if fault then refusal.DiskFault else refusal.NoMemory)) (Err refusal.DiskFault)) (g.faults disk) (g.faults mid) → ChangesStore g disk mid v v Renews Makes (Err (if fault then refusal.DiskFault else refusal.NoMemory))
   stopped_by true cause = unplanned only refusal.DiskFault refl (λ a cache store. tt) tt cause fewest
   stopped_by false cause = unplanned only refusal.NoMemory refl (λ a cache store. tt) tt cause fewest
 
+module _ {D P : Type 0} {g : Disk D} {p : Peer P} {disk mid : D} {x y : P} {v : StoreState} (law : HoldsFollowers) (only : OnlyReads g disk mid) (fewest : g.reads disk ≤ g.reads mid) where
   -- Nothing was adopted.
   pub fetch-refused : (why : FetchAnswer) → PlannedFetch p x y v (g.content disk) (Err why) → RoseIf (◌≡◌ {A = Result Planned FetchAnswer} (Err why) (Err answer.DiskFault)) (g.faults disk) (g.faults mid) → RoseIf (◌≡◌ {A = Result Planned FetchAnswer} (Err why) (Err answer.PeerFault)) (p.faults x) (p.faults y)
       → Fetches g p disk mid v v x y why
@@ -201,7 +202,7 @@ module _ {D P : Type 0} {g : Disk D} {p : Peer P} {disk mid : D} {x y : P} {v : 
         went = λ a cache store. record { others = (ends a cache store).others; is = (ends a cache store).paths; all = not_adopted why ((ends a cache store).others ≡ []) planned.refused };
         follows = follows-so law v (g.content disk) planned.given planned.read planned.reads;
         changes = subst (λ (r : Result (Unit {0}) StoreRefusal). ChangesStore g disk mid v v Renews (λ (a b : Archive). b ≡ reached a (course_over a planned.given planned.read).stage) r) (sym s.done)
-            (stopped_by s.fault (subst (λ (r : Result (Unit {0}) StoreRefusal). RoseIf (r ≡ Err refusal.DiskFault) (g.faults disk) (g.faults mid)) s.done by_store));
+            (stopped_by only fewest s.fault (subst (λ (r : Result (Unit {0}) StoreRefusal). RoseIf (r ≡ Err refusal.DiskFault) (g.faults disk) (g.faults mid)) s.done by_store));
         disk_cause = disk_cause;
         peer_cause = rose_so (p.faults x) (p.faults y) (same_err why answer.PeerFault) (λ same. ap Err same) peer_rose;
       } where
@@ -222,47 +223,83 @@ holds_same : (a b : Archive) → HoldsAll a ≡ HoldsAll b → a ≡ b
 holds_same a b same = cc
 
 -- What was planned was adopted, or wasn't.
-module _ {D P : Type 0} {g : Disk D} {p : Peer P} {disk mid new : D} {x y : P} {v after : StoreState} (law : HoldsFollowers) (only : OnlyReads g disk mid) (fewest : g.reads disk ≤ g.reads mid) (steady : g.faults mid ≡ g.faults disk) (plan : Planned) (planned : PlannedFetch p x y v (g.content disk) (Ok plan)) where
-  abbrev given : List Reply
-  given = planned.given
-
+module _ {P : Type 0} (p : Peer P) (x y : P) (v : StoreState) (content : Option Content) (plan : Planned) (planned : PlannedFetch p x y v content (Ok plan)) where
   abbrev course : Archive → FetchCourse
   course a = course_over a planned.given planned.read
 
-  went_so : (a : Archive) (cache : List ℕ) → IsStoreWith v cache a (g.content disk) → (k : Content) × (g.content disk ≡ Some k) × FetchGoes v cache a k planned.given planned.read planned.put (Ok plan)
-  went_so a cache store = told_store v (λ (k : Content) (cache : List ℕ) (a : Archive). FetchGoes v cache a k planned.given planned.read planned.put (Ok plan)) (g.content disk) planned.goes a cache store
+  went_so : (a : Archive) (cache : List ℕ) → IsStoreWith v cache a content → (k : Content) × (content ≡ Some k) × FetchGoes v cache a k planned.given planned.read planned.put (Ok plan)
+  went_so a cache store = told_store v (λ (k : Content) (cache : List ℕ) (a : Archive). FetchGoes v cache a k planned.given planned.read planned.put (Ok plan)) content planned.goes a cache store
 
-  stage_is : (a : Archive) (cache : List ℕ) (store : IsStoreWith v cache a (g.content disk)) → (course a).stage ≡ HoldsAll (archive_with a ((went_so a cache store).2.0) plan.next)
+  stage_is : (a : Archive) (cache : List ℕ) (store : IsStoreWith v cache a content) → (course_over a planned.given planned.read).stage ≡ HoldsAll (archive_with a ((went_so a cache store).2.0) plan.next)
   stage_is a cache store = ap (λ (c : FetchCourse). c.stage) ((went_so a cache store).2.2)
 
-  reached_is : (a : Archive) (cache : List ℕ) (store : IsStoreWith v cache a (g.content disk)) → reached a (course a).stage ≡ archive_with a ((went_so a cache store).2.0) plan.next
+  reached_is : (a : Archive) (cache : List ℕ) (store : IsStoreWith v cache a content) → reached a (course_over a planned.given planned.read).stage ≡ archive_with a ((went_so a cache store).2.0) plan.next
   reached_is a cache store = ap (reached a) (stage_is a cache store)
 
   -- The entries are the same whatever the cache.
-  one_entries : (a : Archive) (cache other : List ℕ) (store : IsStoreWith v cache a (g.content disk)) (same : IsStoreWith v other a (g.content disk)) → (went_so a other same).2.0 ≡ (went_so a cache store).2.0
+  one_entries : (a : Archive) (cache other : List ℕ) (store : IsStoreWith v cache a content) (same : IsStoreWith v other a content) → (went_so a other same).2.0 ≡ (went_so a cache store).2.0
   one_entries a cache other store same =
       ap (λ (b : Archive). b.entries) (holds_same (archive_with a ((went_so a other same).2.0) plan.next) (archive_with a ((went_so a cache store).2.0) plan.next) (sym (stage_is a other same) ∙ stage_is a cache store))
 
-  plans_told : (a : Archive) (es : List Entry) → ((other : List ℕ) (same : IsStoreWith v other a (g.content disk)) → (went_so a other same).2.0 ≡ es) → (content : Option Content) → g.content disk ≡ content → WhereTold (λ (k : Content). (cache : List ℕ) → IsDiskWith v cache a k → PlansAdopted v cache a k es plan.adoption) content
+  plans_told : (a : Archive) (es : List Entry) → ((other : List ℕ) (same : IsStoreWith v other a content) → (went_so a other same).2.0 ≡ es) → (told : Option Content) → content ≡ told → WhereTold (λ (k : Content). (cache : List ℕ) → IsDiskWith v cache a k → PlansAdopted v cache a k es plan.adoption) told
   plans_told a es one None is = tt
   plans_told a es one (Some k) is = λ cache own.
-      let store : IsStoreWith v cache a (g.content disk) = subst (IsStoreWith v cache a) (sym is) own in
+      let store : IsStoreWith v cache a content = subst (IsStoreWith v cache a) (sym is) own in
       let went = went_so a cache store in
-      let here : went.0 ≡ k = (let both : Some went.0 ≡ Some k = sym went.1 ∙ is in cc) in
+      let here : went.0 ≡ k = same_Some went.0 k (sym went.1 ∙ is) in
       subst (λ (c : Content). PlansAdopted v cache a c es plan.adoption) here (subst (λ (l : List Entry). PlansAdopted v cache a went.0 l plan.adoption) (one cache store) went.2.1)
 
-  adopts : (a b : Archive) (cache : List ℕ) → IsStoreWith v cache a (g.content disk) → b ≡ reached a (course a).stage → Adopts v plan.adoption plan.next (g.content mid) a b
-  adopts a b cache store made =
+  adopts : HoldsFollowers → (m : Option Content) → BothTold Unchanged content m → (a b : Archive) (cache : List ℕ) → IsStoreWith v cache a content → b ≡ reached a (course_over a planned.given planned.read).stage → Adopts v plan.adoption plan.next m a b
+  adopts law m unchanged a b cache store made =
       let is : b ≡ archive_with a ((went_so a cache store).2.0) plan.next = made ∙ reached_is a cache store in
-      subst (Adopts v plan.adoption plan.next (g.content mid) a) (sym is) (record {
-        valid = (follows-so law v (g.content disk) planned.given planned.read planned.reads a (archive_with a ((went_so a cache store).2.0) plan.next) cache store (stage_is a cache store)).0;
+      let told = plans_told a ((went_so a cache store).2.0) (λ other same. one_entries a cache other store same) content refl in
+      subst (Adopts v plan.adoption plan.next m a) (sym is) (record {
+        valid = (follows-so law v content planned.given planned.read planned.reads a (archive_with a ((went_so a cache store).2.0) plan.next) cache store (stage_is a cache store)).0;
         config = refl;
         next_is = refl;
-        planned = subst (WhereTold (λ (k : Content). (cache : List ℕ) → IsDiskWith v cache a k → PlansAdopted v cache a k ((went_so a cache store).2.0) plan.adoption)) (sym (same-content (g.content disk) (g.content mid) only.same))
-            (plans_told a ((went_so a cache store).2.0) (λ other same. one_entries a cache other store same) (g.content disk) refl);
+        planned = subst (WhereTold (λ (k : Content). (other : List ℕ) → IsDiskWith v other a k → PlansAdopted v other a k ((went_so a cache store).2.0) plan.adoption)) (sym (same-content content m unchanged)) told;
       })
 
-  module _ {result : Result (Unit {0}) StoreRefusal} (carried : ChangesStore g mid new v after Renews (Adopts v plan.adoption plan.next (g.content mid)) result) where
+  -- The answer after it.
+  adopt_answers : (told : FetchAnswer) (a : Archive) (cache : List ℕ) (store : IsStoreWith v cache a content) → AnswersAdoption plan.changed told → AnswersBy a (course_over a planned.given planned.read).stage told
+  adopt_answers (answer.Ok told) a cache store fit = (
+    archive_with a ((went_so a cache store).2.0) plan.next,
+    stage_is a cache store,
+    subst (λ (t : Bool). DifferIf t a (archive_with a ((went_so a cache store).2.0) plan.next)) (sym fit) ((went_so a cache store).2.3),
+  )
+  adopt_answers answer.DiskFault a cache store fit = tt
+  adopt_answers answer.NoMemory a cache store fit = tt
+  adopt_answers answer.NotMirror a cache store fit = absurd fit
+  adopt_answers answer.PeerFault a cache store fit = absurd fit
+  adopt_answers (answer.BadReply status) a cache store fit = absurd fit
+  adopt_answers (answer.BadList line) a cache store fit = absurd fit
+  adopt_answers (answer.WrongId listed found) a cache store fit = absurd fit
+  adopt_answers (answer.Changed id) a cache store fit = absurd fit
+  adopt_answers (answer.Renamed number had offered) a cache store fit = absurd fit
+  adopt_answers (answer.Revived number) a cache store fit = absurd fit
+  adopt_answers (answer.Behind had offered) a cache store fit = absurd fit
+  adopt_answers (answer.BadCommit listed computed) a cache store fit = absurd fit
+
+module _ {D P : Type 0} {g : Disk D} {p : Peer P} {disk mid new : D} {x y : P} {v after : StoreState} (law : HoldsFollowers) (only : OnlyReads g disk mid) (fewest : g.reads disk ≤ g.reads mid) (steady : g.faults mid ≡ g.faults disk) (plan : Planned) (planned : PlannedFetch p x y v (g.content disk) (Ok plan)) {result : Result (Unit {0}) StoreRefusal} (carried : ChangesStore g mid new v after Renews (Adopts v plan.adoption plan.next (g.content mid)) result) where
+  pub adopted-changes : ChangesStore g disk new v after Renews (λ (a b : Archive). b ≡ reached a (course_over a planned.given planned.read).stage) result
+  adopted-changes = record {
+    crash = λ a b cache store room made.
+        joined g disk mid new (RecoversOneOf cache a [] b) (RecoversOneOf cache a [] b) (RecoversOneOf cache a [] b) (looked a b cache store room) (carried.crash a b cache (still a cache store) room (made_so a b cache store made)) (λ image stands. stands) (λ image stands. stands);
+    done = λ a b cache store room made. carried.done a b cache (still a cache store) room (made_so a b cache store made);
+    settled = carried.settled;
+    sizes = carried.sizes;
+    goes_on = carried.goes_on;
+    slot = carried.slot;
+    same = carried.same;
+    untouched = unless_weaker (OnlyReads g mid new) (OnlyReads g disk new) result (λ more. reads_both g disk mid new only more) carried.untouched;
+    undamaged = λ a cache store. carried.undamaged a cache (still a cache store);
+    cause = subst (λ (n : ℕ). RoseIf (result ≡ Err refusal.DiskFault) n (g.faults new)) steady carried.cause;
+    count = (let more = carried.count in omega (arith, fewest, more));
+    rooted = on_ok_weaker result (told_then Unchanged (HasNewRoot after.slot (spelling after.root)) (HasNewRoot after.slot (spelling after.root)) (g.content disk) (g.content mid) (g.content new)
+        (λ a b c is told kept rooted. rooted ∙ ap (λ (it : Kept). Some (with_root after.slot (spelling after.root) (bytes_of it.seen))) (kept root_name)) only.same) carried.rooted;
+    crash_root = read_begins g (1 - v.slot) disk mid new (omega arith) only.same only.crash carried.crash_root;
+    damage = subst (λ (k : Option Content). IfDamaged result (λ (file : FileName) (at : ℕ). IsDamageIn v file at k)) (same-content (g.content disk) (g.content mid) only.same) carried.damage;
+  } where
     still : (a : Archive) (cache : List ℕ) → IsStoreWith v cache a (g.content disk) → IsStoreWith v cache a (g.content mid)
     still a cache store = store_still v cache a (g.content disk) (g.content mid) only.same store
 
@@ -271,64 +308,27 @@ module _ {D P : Type 0} {g : Disk D} {p : Peer P} {disk mid new : D} {x y : P} {
         let read : ChangesStore g disk mid v v Renews (λ (a b : Archive). Unit {0}) (Err refusal.NoMemory) = unplanned only refusal.NoMemory refl (λ a cache store. tt) tt (record { later = omega (arith, steady); failed = λ fault. absurd (cc fault); kept = λ never. steady }) fewest in
         read.crash a b cache store room tt
 
-    pub adopted-changes : ChangesStore g disk new v after Renews (λ (a b : Archive). b ≡ reached a (course_over a planned.given planned.read).stage) result
-    adopted-changes = record {
-      crash = λ a b cache store room made.
-          joined g disk mid new (RecoversOneOf cache a [] b) (RecoversOneOf cache a [] b) (RecoversOneOf cache a [] b) (looked a b cache store room) (carried.crash a b cache (still a cache store) room (adopts a b cache store made)) (λ image stands. stands) (λ image stands. stands);
-      done = λ a b cache store room made. carried.done a b cache (still a cache store) room (adopts a b cache store made);
-      settled = carried.settled;
-      sizes = carried.sizes;
-      goes_on = carried.goes_on;
-      slot = carried.slot;
-      same = carried.same;
-      untouched = unless_weaker (OnlyReads g mid new) (OnlyReads g disk new) result (λ more. reads_both g disk mid new only more) carried.untouched;
-      undamaged = λ a cache store. carried.undamaged a cache (still a cache store);
-      cause = subst (λ (n : ℕ). RoseIf (result ≡ Err refusal.DiskFault) n (g.faults new)) steady carried.cause;
-      count = (let more = carried.count in omega (arith, fewest, more));
-      rooted = on_ok_weaker result (told_then Unchanged (HasNewRoot after.slot (spelling after.root)) (HasNewRoot after.slot (spelling after.root)) (g.content disk) (g.content mid) (g.content new)
-          (λ a b c is told kept rooted. rooted ∙ ap (λ (it : Kept). Some (with_root after.slot (spelling after.root) (bytes_of it.seen))) (kept root_name)) only.same) carried.rooted;
-      crash_root = read_begins g (1 - v.slot) disk mid new (omega arith) only.same only.crash carried.crash_root;
-      damage = subst (λ (k : Option Content). IfDamaged result (λ (file : FileName) (at : ℕ). IsDamageIn v file at k)) (same-content (g.content disk) (g.content mid) only.same) carried.damage;
-    }
-
-  -- The answer after it.
-  adopt_answers : (told : FetchAnswer) (a : Archive) (cache : List ℕ) (store : IsStoreWith v cache a (g.content disk)) → AnswersAdoption plan.changed told → AnswersBy a (course a).stage told
-  adopt_answers (answer.Ok told) a cache store as = (
-    archive_with a ((went_so a cache store).2.0) plan.next,
-    stage_is a cache store,
-    subst (λ (t : Bool). DifferIf t a (archive_with a ((went_so a cache store).2.0) plan.next)) (sym as) ((went_so a cache store).2.3),
-  )
-  adopt_answers answer.DiskFault a cache store as = tt
-  adopt_answers answer.NoMemory a cache store as = tt
-  adopt_answers answer.NotMirror a cache store as = absurd as
-  adopt_answers answer.PeerFault a cache store as = absurd as
-  adopt_answers (answer.BadReply status) a cache store as = absurd as
-  adopt_answers (answer.BadList line) a cache store as = absurd as
-  adopt_answers (answer.WrongId listed found) a cache store as = absurd as
-  adopt_answers (answer.Changed id) a cache store as = absurd as
-  adopt_answers (answer.Renamed number had offered) a cache store as = absurd as
-  adopt_answers (answer.Revived number) a cache store as = absurd as
-  adopt_answers (answer.Behind had offered) a cache store as = absurd as
-  adopt_answers (answer.BadCommit listed computed) a cache store as = absurd as
+    made_so : (a b : Archive) (cache : List ℕ) → IsStoreWith v cache a (g.content disk) → b ≡ reached a (course_over a planned.given planned.read).stage → Adopts v plan.adoption plan.next (g.content mid) a b
+    made_so a b cache store made = adopts p x y v (g.content disk) plan planned law (g.content mid) only.same a b cache store made
 
 -- The result of the store by such an answer.
 adopt_fault : (changed : Bool) (told : FetchAnswer) → AnswersAdoption changed told → done_by told ≡ Err refusal.DiskFault → told ≡ answer.DiskFault
-adopt_fault changed (answer.Ok t) as same = absurd (cc)
-adopt_fault changed answer.DiskFault as same = refl
-adopt_fault changed answer.NoMemory as same = absurd (cc)
-adopt_fault changed answer.NotMirror as same = absurd as
-adopt_fault changed answer.PeerFault as same = absurd as
-adopt_fault changed (answer.BadReply status) as same = absurd as
-adopt_fault changed (answer.BadList line) as same = absurd as
-adopt_fault changed (answer.WrongId listed found) as same = absurd as
-adopt_fault changed (answer.Changed id) as same = absurd as
-adopt_fault changed (answer.Renamed number had offered) as same = absurd as
-adopt_fault changed (answer.Revived number) as same = absurd as
-adopt_fault changed (answer.Behind had offered) as same = absurd as
-adopt_fault changed (answer.BadCommit listed computed) as same = absurd as
+adopt_fault changed (answer.Ok t) fit same = absurd (cc)
+adopt_fault changed answer.DiskFault fit same = refl
+adopt_fault changed answer.NoMemory fit same = absurd (cc)
+adopt_fault changed answer.NotMirror fit same = absurd fit
+adopt_fault changed answer.PeerFault fit same = absurd fit
+adopt_fault changed (answer.BadReply status) fit same = absurd fit
+adopt_fault changed (answer.BadList line) fit same = absurd fit
+adopt_fault changed (answer.WrongId listed found) fit same = absurd fit
+adopt_fault changed (answer.Changed id) fit same = absurd fit
+adopt_fault changed (answer.Renamed number had offered) fit same = absurd fit
+adopt_fault changed (answer.Revived number) fit same = absurd fit
+adopt_fault changed (answer.Behind had offered) fit same = absurd fit
+adopt_fault changed (answer.BadCommit listed computed) fit same = absurd fit
 
 no_peer : (changed : Bool) (told : FetchAnswer) → AnswersAdoption changed told → told ≡ answer.PeerFault → ⊥
-no_peer changed told as same = subst (AnswersAdoption changed) same as
+no_peer changed told fit same = subst (AnswersAdoption changed) same fit
 
 all_adopted : (told : FetchAnswer) → IfAdopted told (◌≡◌ {A = List (List ℕ)} [] [])
 all_adopted (answer.Ok t) = refl
@@ -347,12 +347,10 @@ all_adopted (answer.BadCommit listed computed) = tt
 
 module _ {D P : Type 0} {g : Disk D} {p : Peer P} {disk mid new : D} {x y : P} {v after : StoreState} (law : HoldsFollowers) (only : OnlyReads g disk mid) (fewest : g.reads disk ≤ g.reads mid) (plan : Planned) (planned : PlannedFetch p x y v (g.content disk) (Ok plan))
     (disk_rose : RoseIf (◌≡◌ {A = Result Planned FetchAnswer} (Ok plan) (Err answer.DiskFault)) (g.faults disk) (g.faults mid)) (peer_rose : RoseIf (◌≡◌ {A = Result Planned FetchAnswer} (Ok plan) (Err answer.PeerFault)) (p.faults x) (p.faults y)) where
-  steady_disk : g.faults mid ≡ g.faults disk
-  steady_disk = disk_rose.kept (λ same. absurd (cc same))
-
   pub fetch-adopted : (told : FetchAnswer) → AnswersAdoption plan.changed told → ChangesStore g mid new v after Renews (Adopts v plan.adoption plan.next (g.content mid)) (done_by told) → Fetches g p disk new v after x y told
-  fetch-adopted told as carried =
-      let changes = adopted-changes law only fewest steady_disk plan planned carried in
+  fetch-adopted told fit carried =
+      let steady : g.faults mid ≡ g.faults disk = disk_rose.kept (λ same. absurd (cc same)) in
+      let changes : ChangesStore g disk new v after Renews (λ (a b : Archive). b ≡ reached a (course_over a planned.given planned.read).stage) (done_by told) = adopted-changes law only fewest steady plan planned carried in
       record {
         given = planned.given;
         read = planned.read;
@@ -360,18 +358,18 @@ module _ {D P : Type 0} {g : Disk D} {p : Peer P} {disk mid new : D} {x y : P} {
         gave = planned.gave;
         reads = planned.reads;
         leads = leads-so law v (g.content disk) planned.given planned.read planned.reads;
-        answered = λ a cache store. adopt_answers law only fewest steady_disk plan planned told a cache store as;
+        answered = λ a cache store. adopt_answers p x y v (g.content disk) plan planned told a cache store fit;
         went = λ a cache store. record {
           others = [];
-          is = ap (λ (c : FetchCourse). c.asked) ((went_so law only fewest steady_disk plan planned a cache store).2.2) ∙ sym (append-nil planned.put);
+          is = ap (λ (c : FetchCourse). c.asked) ((went_so p x y v (g.content disk) plan planned a cache store).2.2) ∙ sym (append-nil planned.put);
           all = all_adopted told;
         };
         follows = follows-so law v (g.content disk) planned.given planned.read planned.reads;
         changes = changes;
-        disk_cause = rose_so (g.faults disk) (g.faults new) (adopt_fault plan.changed told as) (λ same. ap done_by same) changes.cause;
+        disk_cause = rose_so (g.faults disk) (g.faults new) (adopt_fault plan.changed told fit) (λ same. ap done_by same) changes.cause;
         peer_cause = record {
           later = peer_rose.later;
-          failed = λ fault. absurd (no_peer plan.changed told as fault);
+          failed = λ fault. absurd (no_peer plan.changed told fit fault);
           kept = λ never. peer_rose.kept (λ same. absurd (cc same));
         };
       }

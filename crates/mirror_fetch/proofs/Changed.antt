@@ -1,8 +1,7 @@
 -- Whether a list makes another archive, by its lines.
-use Rattle.std.proofs.Common.{inl, inr, ◌≡◌, ◌≢◌, ◌++◌, ℕ, Bool, true, false, IsTrue, IsFalse, List, [], ◌∷◌, map, Some, None, Ok, refl, sym, ap, subst, ◌∙◌}
+use Rattle.std.proofs.Common.{inl, inr, ◌≡◌, ◌≢◌, ◌++◌, Bool, true, false, IsFalse, List, [], ◌∷◌, Ok, refl, sym, ap, subst, ◌∙◌}
 use Rattle.std.specs.List.{AllByRecursion}
 use Rattle.arch_base.specs.declared.ids.Form.{Form}
-use Rattle.arch_base.specs.declared.ids.ObjectId.{ObjectId}
 use Rattle.git_objects.specs.Objects.{blob_id_of}
 use Rattle.edge_io.specs.declared.peer.Reply.{Reply}
 use Rattle.arch_model.specs.Archives.{Entry, Archive}
@@ -12,10 +11,8 @@ use Rattle.arch_model.specs.declared.line.EntryLine.{EntryLine}
 use Rattle.arch_model.proofs.LiveEntries.{HasText}
 use Rattle.arch_model.proofs.ValidArchives.{all_weaker}
 use Rattle.mirror_wire.specs.declared.list.MirrorList.{MirrorList}
-use Rattle.store_finding.specs.declared.entries.StoredEntry.{StoredEntry}
 use Rattle.store_finding.specs.Kept.{KeepsArchive, StoreState, stored_after}
-use Rattle.epoch_store.specs.Reads.{line_of}
-use Rattle.fetch_course.specs.Courses.{HoldsAll, archive_with, entry_on, lines_course, read_course, wrong_list}
+use Rattle.fetch_course.specs.Courses.{HoldsAll, archive_with, lines_course, read_course, wrong_list}
 use Rattle.fetch_course.specs.Laws.{TextsAgree}
 use Rattle.fetch_course.proofs.Followers.{own-found}
 use Rattle.fetch_course.proofs.Held.{holds_the_list}

@@ -1,5 +1,5 @@
 -- What a peer gave, one run of calls after the other.
-use Rattle.std.proofs.Common.{◌≡◌, ℕ, List, [], ◌∷◌, ◌++◌, Option, Some, None, refl, sym, ap, ◌∙◌, append-nil, append_assoc}
+use Rattle.std.proofs.Common.{◌≡◌, ℕ, List, [], ◌++◌, Option, Some, None, refl, sym, ap, ◌∙◌, append-nil, append_assoc}
 use Rattle.edge_io.specs.declared.peer.Peer.{Ghosts as Peer}
 use Rattle.edge_io.specs.declared.peer.Reply.{Reply}
 use Rattle.fetch_course.specs.Peering.{PeerGave, replies_before, with_paths}

@@ -1,5 +1,5 @@
 -- Where the course over a line leads, by what was answered.
-use Rattle.std.proofs.Common.{inl, inr, ◌≡◌, ◌⊎◌, ◌==◌, ℕ, Bool, true, false, not, List, [], ◌∷◌, ◌++◌, Option, Some, None, refl, sym, ap, subst, ◌∙◌, append-nil, append_assoc, if◌then◌else◌}
+use Rattle.std.proofs.Common.{inl, inr, ◌≡◌, ◌⊎◌, ◌==◌, ℕ, Bool, true, false, not, List, [], ◌∷◌, ◌++◌, Option, Some, None, refl, sym, ap, subst, ◌∙◌, append_assoc, if◌then◌else◌}
 use Rattle.arch_base.specs.Ids.{id_eq}
 use Rattle.arch_base.specs.declared.ids.Form.{Form}
 use Rattle.arch_base.specs.declared.ids.ObjectId.{ObjectId}
@@ -11,7 +11,7 @@ use Rattle.store_finding.specs.declared.entries.StoredEntry.{StoredEntry}
 use Rattle.fetch_course.specs.declared.answer.FetchAnswer.{FetchAnswer}
 use Rattle.fetch_course.specs.declared.answer.FetchAnswer.TheVariants as answer
 use Rattle.fetch_course.specs.Asking.{IsNoReply}
-use Rattle.fetch_course.specs.Courses.{FetchCourse, FetchStage, AsksOn, ComesTo, after_paths, comes_to, commit_on, known_text, line_course, misfits, unless, wrong_reply, wrong_text}
+use Rattle.fetch_course.specs.Courses.{FetchCourse, ComesTo, after_paths, comes_to, commit_on, known_text, line_course, misfits, unless, wrong_reply, wrong_text}
 use Rattle.fetch_course.specs.Peering.{blob_path}
 use Rattle.fetch_course.proofs.Lines.{known-blob, right-reply}
 use Rattle.mirror_fetch.specs.Own.{IsLocal}

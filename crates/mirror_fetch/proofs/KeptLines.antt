@@ -1,12 +1,11 @@
 -- A line was taken with an own entry that stays.
-use Rattle.std.proofs.Common.{inl, inr, ◌≡◌, ◌⊎◌, ◌==◌, ◌&&◌, ◌||◌, ℕ, Bool, true, false, not, List, [], ◌∷◌, ◌++◌, length, Option, Some, None, is_some, IsSome, unwrap_or, option_map, Result, Ok, Err, IfErr, refl, sym, ap, subst, ◌∙◌, if◌then◌else◌}
-use Rattle.std.specs.Str.{bytes_eq}
+use Rattle.std.proofs.Common.{◌≡◌, ◌==◌, ◌&&◌, ◌||◌, ℕ, Bool, true, false, not, List, [], ◌∷◌, ◌++◌, length, Option, Some, None, is_some, IsSome, unwrap_or, option_map, Result, Ok, Err, IfErr, refl, sym, ap, subst, ◌∙◌}
 use Rattle.std.proofs.lemmas.Slice.Eq.{bytes_eq-Decides}
 use Rattle.arch_base.specs.declared.ids.Form.{Form}
 use Rattle.arch_base.specs.declared.ids.ObjectId.{ObjectId}
 use Rattle.arch_judge.specs.Indexes.{IsArchiveIndex, owner_in, owner_of}
 use Rattle.arch_judge.specs.declared.index.Index.{Index}
-use Rattle.disk_model.specs.Disk.{Content, WhereTold}
+use Rattle.disk_model.specs.Disk.{Content}
 use Rattle.edge_io.specs.declared.peer.Peer.{Ghosts as Peer}
 use Rattle.mail_reader.specs.Stored.{storage_form}
 use Rattle.mail_reader.specs.Ids.{own_id}
@@ -17,16 +16,15 @@ use Rattle.store_finding.specs.declared.entries.StoredEntry.{StoredEntry}
 use Rattle.store_finding.specs.Indexes.{EntriesAreInOrder, IndexesStored}
 use Rattle.store_finding.specs.Kept.{IsDiskWith, StoreState, stored_at}
 use Rattle.store_finding.proofs.FindingTold.{where_so}
-use Rattle.epoch_store.specs.Adopting.{AdoptionState, GivesOwn, IsAdoptionOf, IsKeptOn, IsOnLine, KeepsLine, PlansAdopted}
+use Rattle.epoch_store.specs.Adopting.{AdoptionState, GivesOwn, IsKeptOn, IsOnLine, KeepsLine, PlansAdopted}
 use Rattle.fetch_course.specs.declared.answer.FetchAnswer.{FetchAnswer}
-use Rattle.fetch_course.specs.declared.answer.FetchAnswer.TheVariants as answer
-use Rattle.fetch_course.specs.Courses.{commit_on, entry_on, is_id_taken, is_own_form, known_text, misfits, wrong_text}
+use Rattle.fetch_course.specs.Courses.{commit_on, entry_on, is_id_taken, is_own_form, known_text, misfits}
 use Rattle.mirror_fetch.specs.Own.{asked_text}
-use Rattle.mirror_fetch.specs.Taking.{ChecksKept, GoesLine, IsOfText, IsRefused, IsTakingOf, TookEntries, TookLine, unless_wrong, wrong_commit}
+use Rattle.mirror_fetch.specs.Taking.{ChecksKept, GoesLine, IsOfText, IsRefused, IsTakingOf, TookEntries, TookLine}
 use Rattle.mirror_fetch.specs.declared.own.Asked.{Asked}
 use Rattle.mirror_fetch.specs.declared.taking.Taking.{Taking}
 use Rattle.mirror_fetch.proofs.Gave.{gave-none}
-use Rattle.mirror_fetch.proofs.Goes.{fits-then, known-ends, known-goes, misfits-then}
+use Rattle.mirror_fetch.proofs.Goes.{known-ends, known-goes}
 use Rattle.mirror_fetch.proofs.TextsTook.{text-refused}
 use Rattle.mirror_fetch.proofs.Took.{asked-same, index-of, last-kept, own-entry, own-known, own-valid}
 
@@ -62,6 +60,21 @@ module _ (form : Form) (es : List Entry) (e : Entry) (line : EntryLine) (index :
   kept-fits =
       fits_by (length e.text == line.size) (is_own_form (storage_form e.text) e.text) (is_some (own_id e.text)) (is_message line.kind && is_id_taken (live es) (own_id e.text)) (own_form (storage_form e.text) e.text valid.text.form) valid.text.id
       ∙ ap (λ (t : Bool). not (length e.text == line.size) || (is_message line.kind && t)) taken_is
+
+  -- By what is kept of it.
+  module _ (s : StoredEntry) (is : s ≡ stored_at form es e) where
+    size_is : s.seen.size ≡ length e.text
+    size_is = ap (λ (x : StoredEntry). x.seen.size) is
+
+    test_is : (t : Bool) → (s.seen.size == line.size) ≡ t → (length e.text == line.size) ≡ t
+    test_is t test = ap (λ (n : ℕ). n == line.size) (sym size_is) ∙ test
+
+    pub kept-size : (s.seen.size == line.size) ≡ false → true ≡ misfits es line e.text
+    kept-size test = sym (kept-fits ∙ ap (λ (t : Bool). not t || (is_message line.kind && is_some (owner_in index.owners id))) (test_is false test))
+
+    pub kept-other : (b : Bool) → (s.seen.size == line.size) ≡ true → b ≡ (is_message line.kind && is_some (owner_in index.owners s.seen.id)) → b ≡ misfits es line e.text
+    kept-other b test other = sym (kept-fits ∙ (ap (λ (t : Bool). not t || (is_message line.kind && is_some (owner_in index.owners id))) (test_is true test)
+        ∙ (ap (λ (i : List ℕ). is_message line.kind && is_some (owner_in index.owners i)) (sym (ap (λ (x : StoredEntry). x.seen.id) is)) ∙ sym other)))
 
 -- The commit of an entry that is kept on a line is that of the line's rules.
 pub kept-commit : (form : Form) (es : List Entry) (e : Entry) (s : StoredEntry) (line : EntryLine) → s ≡ stored_at form es e → IsOnLine s line → s.seen.commit ≡ commit_on form es line e.text

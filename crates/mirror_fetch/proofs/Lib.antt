@@ -10,3 +10,6 @@ mod Listed
 mod TextsTook
 mod KeptLines
 mod Lists
+mod Starts
+mod SameLines
+mod Added

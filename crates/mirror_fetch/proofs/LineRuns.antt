@@ -1,7 +1,8 @@
 -- Lines that were taken one after the other: one more goes on with the course, or ends it.
-use Rattle.std.proofs.Common.{inl, inr, ◌≡◌, ◌+◌, ◌<◌, ◌≤◌, ℕ, zero, suc, List, [], ◌∷◌, ◌++◌, length, take, drop, get_or, Option, Some, None, Result, Ok, Err, refl, sym, ap, subst, ◌∙◌, arith, append-nil, append_assoc}
+use Rattle.std.proofs.Common.{◌≡◌, ◌+◌, ◌<◌, ◌≤◌, ℕ, zero, suc, List, [], ◌∷◌, ◌++◌, length, take, drop, get_or, Option, Some, None, Ok, Err, refl, sym, ap, subst, ◌∙◌, arith, append-nil, append_assoc}
 use Rattle.std.specs.List.{AllByRecursion}
-use Rattle.std.proofs.lemmas.List.{take_more, drop_more, drop_all, take_all}
+use Rattle.std.proofs.lemmas.List.{take_more, drop_more, drop_all}
+use Rattle.std.proofs.lemmas.Option.{same_Some, slice_get-get_or}
 use Rattle.arch_base.specs.declared.ids.Form.{Form}
 use Rattle.disk_model.specs.Disk.{BothTold, Content, Unchanged, WhereTold}
 use Rattle.edge_io.specs.declared.peer.Peer.{Ghosts as Peer}
@@ -15,11 +16,11 @@ use Rattle.store_finding.specs.Indexes.{EntriesAreInOrder}
 use Rattle.store_finding.specs.Kept.{IsDiskWith, StoreState}
 use Rattle.store_finding.proofs.FindingTold.{where_both, where_so}
 use Rattle.fetch_course.specs.declared.answer.FetchAnswer.{FetchAnswer}
-use Rattle.fetch_course.specs.Courses.{FetchCourse, HoldsAll, after_paths, archive_with, entry_on, known_text, line_course, lines_course}
+use Rattle.fetch_course.specs.Courses.{HoldsAll, after_paths, archive_with, entry_on, known_text, line_course, lines_course}
 use Rattle.fetch_course.specs.Peering.{PeerGave}
 use Rattle.fetch_course.proofs.Lines.{right-line}
 use Rattle.fetch_course.proofs.Valid.{ValidSoFar, valid-more}
-use Rattle.mirror_fetch.specs.Taking.{EndsAs, GoesLine, GoesOnWith, LinesGo, StartsTaking, TakesOne, TookEntries, TookLine, TookLines}
+use Rattle.mirror_fetch.specs.Taking.{EndsAs, GoesLine, LinesGo, StartsTaking, TakesOne, TookEntries, TookLine, TookLines}
 use Rattle.mirror_fetch.specs.declared.taking.Taking.{Taking}
 use Rattle.mirror_fetch.proofs.Gave.{gave-both, gave-none}
 use Rattle.mirror_fetch.proofs.Goes.{after-both, ends-after}
@@ -198,3 +199,23 @@ lines-all p x y v c next lines n t all so = record {
   refused = tt;
   goes = where_so _ _ c so.goes (λ k before cache a own. all_lines v cache a k next lines n so.given so.put t all (before cache a own));
 }
+
+-- The same of a line that is read with any line in place of one that isn't there.
+any_line : (lines : List EntryLine) (n : ℕ) (d : EntryLine) → n < length lines → get_or lines n d ≡ get_or lines n (get_or lines n d)
+any_line lines n d less = same_Some (get_or lines n d) (get_or lines n (get_or lines n d)) (sym (slice_get-get_or lines n d less) ∙ slice_get-get_or lines n (get_or lines n d) less)
+
+module _ (form : Form) (next : ℕ) (lines : List EntryLine) (follow : EachMayFollow form next [] lines) (n : ℕ) (d : EntryLine) (within : n < length lines) where
+  pub read-follows : MayFollow form next (take n lines) (get_or lines n d)
+  read-follows = follows-at form next lines follow n (get_or lines n d) within (any_line lines n d within)
+
+  pub read-before : (entries : List StoredEntry) → AreBefore (drop n lines) entries → AreUpToEpoch (get_or lines n d).epoch entries
+  read-before entries before = before-at form next lines follow n (get_or lines n d) within (any_line lines n d within) entries before
+
+  pub read-next : (old new : Taking) → AreBefore (drop n lines) old.adoption.planned.entries → TakesOne (get_or lines n d) old new → AreBefore (drop (n + 1) lines) new.adoption.planned.entries
+  read-next old new before one = before-next form next lines follow n (get_or lines n d) within (any_line lines n d within) old new before one
+
+pub read-goes : {P : Type 0} (p : Peer P) (x y z : P) (v : StoreState) (c m : Option Content) (same : BothTold Unchanged c m) (next : ℕ) (lines : List EntryLine) (follow : EachMayFollow v.root.config.form next [] lines) (n : ℕ) (d : EntryLine) (within : n < length lines) (old new : Taking) → TookSoFar p x y v c next lines n old → TookLine p y z v m (n + 4) (get_or lines n d) old new (Ok tt) → TookSoFar p x z v c next lines (n + 1) new
+read-goes p x y z v c m same next lines follow n d within old new so took = lines-follow p x y z v c m same next lines follow n (get_or lines n d) within (any_line lines n d within) old new so took
+
+pub read-ends : {P : Type 0} (p : Peer P) (x y z : P) (v : StoreState) (c m : Option Content) (same : BothTold Unchanged c m) (next : ℕ) (lines : List EntryLine) (follow : EachMayFollow v.root.config.form next [] lines) (n : ℕ) (d : EntryLine) (within : n < length lines) (old new : Taking) (why : FetchAnswer) → TookSoFar p x y v c next lines n old → TookLine p y z v m (n + 4) (get_or lines n d) old new (Err why) → TookLines p x z v c next lines new (Err why)
+read-ends p x y z v c m same next lines follow n d within old new why so took = lines-end p x y z v c m same next lines follow n (get_or lines n d) within (any_line lines n d within) old new so why took

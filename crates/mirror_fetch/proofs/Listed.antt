@@ -1,5 +1,5 @@
 -- The list that a peer was asked for.
-use Rattle.std.proofs.Common.{inl, inr, ◌≡◌, ◌⊎◌, ◌==◌, ℕ, Bool, true, false, List, [], ◌∷◌, ◌++◌, Result, Ok, Err, refl, sym, ap, subst, ◌∙◌, if◌then◌else◌}
+use Rattle.std.proofs.Common.{inl, inr, ◌≡◌, ◌==◌, ℕ, Bool, true, false, List, [], ◌∷◌, Result, Ok, Err, refl, sym, ap, subst, ◌∙◌, if◌then◌else◌}
 use Rattle.arch_base.specs.declared.ids.Form.{Form}
 use Rattle.edge_io.specs.declared.peer.Peer.{Ghosts as Peer}
 use Rattle.edge_io.specs.declared.peer.Reply.{Reply}
@@ -11,10 +11,10 @@ use Rattle.mirror_wire.specs.Reading.{ReadsList}
 use Rattle.fetch_course.specs.declared.answer.FetchAnswer.{FetchAnswer}
 use Rattle.fetch_course.specs.declared.answer.FetchAnswer.TheVariants as answer
 use Rattle.fetch_course.specs.Asking.{IsNoReply, MayHaveAsked}
-use Rattle.fetch_course.specs.Courses.{FetchCourse, AsksOn, ComesTo, after_paths, comes_to, read_course}
+use Rattle.fetch_course.specs.Courses.{ComesTo, after_paths, comes_to, read_course}
 use Rattle.fetch_course.specs.Peering.{PeerGave, list_path}
-use Rattle.mirror_fetch.specs.Fetching.{ReadsFirst, mirror_course}
-use Rattle.mirror_fetch.specs.Listing.{AsksList, GoesToList, IsOfReading, ReadsReply}
+use Rattle.mirror_fetch.specs.Fetching.{mirror_course}
+use Rattle.mirror_fetch.specs.Listing.{AsksList, IsOfReading, ReadsReply}
 use Rattle.mirror_fetch.specs.Taking.{EndsAs, IsEndOf, IsRefused}
 use Rattle.mirror_fetch.proofs.Gave.{gave-none}
 use Rattle.mirror_fetch.proofs.Goes.{ends-local, ends-to}
@@ -136,3 +136,39 @@ module _ {P : Type 0} (p : Peer P) (x y : P) (name : List ℕ) (form : Form) (pa
 -- The answers by a reply are no fault of the peer.
 pub reading-no-peer : (why : FetchAnswer) → IsOfReading why → why ≡ answer.PeerFault → ⊥
 reading-no-peer why of same = subst IsOfReading same of
+
+-- A reply that is read.
+pub bad-reply : (form : Form) (reply : Reply) → (reply.status == 200) ≡ false → ReadsReply form reply (Err (answer.BadReply reply.status))
+bad-reply form reply other_status = (
+  Err list.NoMemory,
+  (λ good. absurd (let wrong : true ≡ false = sym good ∙ other_status in cc)),
+  (λ a replies. ap (λ (t : Bool). if t then read_course a replies (Err list.NoMemory) else comes_to (answer.BadReply reply.status)) other_status),
+  tt,
+)
+
+pub bad-list : (form : Form) (reply : Reply) (n : ℕ) → (reply.status == 200) ≡ true → ReadsList form reply.body (Err (list.BadList n)) → ReadsReply form reply (Err (answer.BadList n))
+bad-list form reply n good_status bad = (
+  Err (list.BadList n),
+  (λ good. bad),
+  (λ a replies. ap (λ (t : Bool). if t then read_course a replies (Err (list.BadList n)) else comes_to (answer.BadReply reply.status)) good_status),
+  tt,
+)
+
+pub no-memory : (form : Form) (reply : Reply) → (reply.status == 200) ≡ true → ReadsReply form reply (Err answer.NoMemory)
+no-memory form reply good_status = (
+  Err list.NoMemory,
+  (λ good. tt),
+  (λ a replies. ap (λ (t : Bool). if t then read_course a replies (Err list.NoMemory) else comes_to (answer.BadReply reply.status)) good_status),
+  tt,
+)
+
+-- None of the answers is a fault of the disk.
+same_why : (x y : FetchAnswer) → ◌≡◌ {A = Result MirrorList FetchAnswer} (Err x) (Err y) → x ≡ y
+same_why x y same = cc
+
+pub read-no-disk : (form : Form) (reply : Reply) (r : Result MirrorList FetchAnswer) → ReadsReply form reply r → r ≡ Err answer.DiskFault → ⊥
+read-no-disk form reply (Ok l) reads same = absurd (cc same)
+read-no-disk form reply (Err why) reads same = subst IsOfReading (same_why why answer.DiskFault same) reads.3
+
+pub asked-no-disk : (why : FetchAnswer) → IsNoReply why → ◌≡◌ {A = Result MirrorList FetchAnswer} (Err why) (Err answer.DiskFault) → ⊥
+asked-no-disk why none same = subst IsNoReply (same_why why answer.DiskFault same) none

@@ -1,25 +1,26 @@
 -- A list that was read: what is wrong with it, or where its lines lead.
-use Rattle.std.proofs.Common.{◌≡◌, ℕ, List, [], ◌∷◌, ◌++◌, Option, Some, None, Result, Ok, Err, refl, sym, ap, subst, ◌∙◌, append-nil, true, false, Bool, if◌then◌else◌}
+use Rattle.std.proofs.Common.{arith, ◌≡◌, ℕ, List, [], ◌++◌, Option, Some, None, Result, Ok, Err, refl, sym, ap, subst, ◌∙◌, true, false, Bool, if◌then◌else◌}
+use Rattle.arch_base.specs.Counts.{RoseIf}
 use Rattle.arch_base.specs.declared.config.Config.{Config}
-use Rattle.arch_base.specs.declared.ids.Form.{Form}
-use Rattle.disk_model.specs.Disk.{Content, WhereTold}
+use Rattle.disk_model.specs.Disk.{Content}
 use Rattle.edge_io.specs.declared.peer.Peer.{Ghosts as Peer}
 use Rattle.edge_io.specs.declared.peer.Reply.{Reply}
-use Rattle.arch_model.specs.Archives.{Entry, Archive}
+use Rattle.arch_model.specs.Archives.{Archive}
 use Rattle.mirror_wire.specs.declared.list.MirrorList.{MirrorList}
 use Rattle.mirror_wire.specs.declared.list.ListRefusal.{ListRefusal}
 use Rattle.mirror_wire.specs.declared.list.ListRefusal.TheVariants as list
-use Rattle.store_finding.specs.Kept.{IsDiskWith, KeepsArchive, StoreState}
+use Rattle.store_finding.specs.Kept.{KeepsArchive, StoreState}
 use Rattle.store_finding.proofs.FindingTold.{where_any, where_so}
-use Rattle.epoch_store.specs.Adopting.{AdoptionState, PlansAdopted}
+use Rattle.epoch_store.specs.Adopting.{AdoptionState}
 use Rattle.fetch_course.specs.declared.answer.FetchAnswer.{FetchAnswer}
 use Rattle.fetch_course.specs.declared.answer.FetchAnswer.TheVariants as answer
-use Rattle.fetch_course.specs.Courses.{FetchCourse, FetchStage, ComesTo, HoldsAll, after_paths, archive_with, comes_to, lines_course, read_course, unless, wrong_list}
-use Rattle.fetch_course.specs.Numbers.{IsOfList, NamesMessages, named_at}
-use Rattle.mirror_fetch.specs.Fetching.{ReadsFirst, course_over, mirror_course}
-use Rattle.mirror_fetch.specs.Listing.{AsksList, GoesToList, ReadsBefore, kept_lines}
+use Rattle.fetch_course.specs.Courses.{FetchCourse, ComesTo, after_paths, comes_to, lines_course, read_course, unless, wrong_list}
+use Rattle.fetch_course.specs.Numbers.{IsOfList, NamesMessages}
+use Rattle.fetch_course.specs.declared.numbers.Numbers.{Numbers}
+use Rattle.mirror_fetch.specs.Fetching.{course_over, mirror_course}
+use Rattle.mirror_fetch.specs.Listing.{AsksList, kept_lines}
 use Rattle.mirror_fetch.specs.Own.{OwnAre}
-use Rattle.mirror_fetch.specs.Taking.{EndsAs, FetchGoes, IsEndOf, IsRefused, LinesGo, ListGoes, PlannedFetch, TookLines, TookList}
+use Rattle.mirror_fetch.specs.Taking.{EndsAs, IsEndOf, IsRefused, PlannedFetch, TookLines, TookList}
 use Rattle.mirror_fetch.specs.declared.own.Own.{Own}
 use Rattle.mirror_fetch.specs.declared.taking.Planned.{Planned}
 use Rattle.mirror_fetch.specs.declared.taking.Taking.{Taking}
@@ -27,7 +28,7 @@ use Rattle.mirror_fetch.proofs.Changed.{tells-change}
 use Rattle.mirror_fetch.proofs.Gave.{gave-both, gave-none}
 use Rattle.mirror_fetch.proofs.Goes.{ends-after, ends-local, ends-to}
 use Rattle.mirror_fetch.proofs.OwnTexts.{names-messages}
-use Rattle.mirror_fetch.proofs.Took.{form-of, name-of}
+use Rattle.mirror_fetch.proofs.Took.{name-of}
 
 -- An answer by a list alone.
 list_end : (why : FetchAnswer) → IsOfList (Some why) → IsEndOf why (ComesTo why) × IsRefused why
@@ -170,3 +171,16 @@ module _ {P : Type 0} (p : Peer P) (x y : P) (v : StoreState) (content : Option 
             tells-change v a own.keeps l took.given went.0 (ap (λ (c : FetchCourse). c.stage) went.2) changed same other,
           ));
     }
+
+-- By what the calls give.
+pub wrong-so : (v : StoreState) (own : Own) (l : MirrorList) (wrong : Option FetchAnswer) (numbers : Numbers) (next : ℕ) (config : Config) → numbers ≡ own.numbers → next ≡ v.root.next → config ≡ v.root.config
+    → ((a : Archive) → NamesMessages a numbers.blobs → a.next ≡ next → a.config.name ≡ config.name → wrong ≡ wrong_list a l) → WrongBy v own l wrong
+wrong-so v own l wrong numbers next config same next_is config_is by a names n m =
+    by a (subst (λ (x : Numbers). NamesMessages a x.blobs) (sym same) names) (n ∙ sym next_is) (m ∙ ap (λ (x : Config). x.name) (sym config_is))
+
+-- A refusal of a list is no fault of the disk.
+err_same : {A : Type 0} (x y : FetchAnswer) → ◌≡◌ {A = Result A FetchAnswer} (Err x) (Err y) → x ≡ y
+err_same x y same = cc
+
+pub no-disk : (why : FetchAnswer) (n : ℕ) → (◌≡◌ {A = Result MirrorList FetchAnswer} (Err why) (Err answer.DiskFault) → ⊥) → RoseIf (◌≡◌ {A = Result Planned FetchAnswer} (Err why) (Err answer.DiskFault)) n n
+no-disk why n never = record { later = omega arith; failed = λ fault. absurd (never (ap Err (err_same why answer.DiskFault fault))); kept = λ other. refl }

@@ -1,22 +1,24 @@
 -- What a store has of its own, on the disk of its archive.
-use Rattle.std.proofs.Common.{inl, inr, ◌≡◌, ◌≢◌, ◌==◌, ◌&&◌, ℕ, zero, suc, Bool, true, false, List, [], ◌∷◌, ◌++◌, slice_get, Option, Some, None, option_map, refl, sym, ap, subst, ◌∙◌, if◌then◌else◌}
+use Rattle.std.proofs.Common.{inl, inr, ◌≡◌, ◌≢◌, ◌<◌, ◌==◌, ◌&&◌, length, Ok, Err, ℕ, zero, suc, Bool, true, false, List, [], ◌∷◌, ◌++◌, slice_get, Option, Some, None, option_map, refl, sym, ap, subst, ◌∙◌, if◌then◌else◌}
 use Rattle.std.specs.List.{AllByRecursion}
-use Rattle.std.proofs.lemmas.Option.{same_Some}
+use Rattle.std.proofs.lemmas.Option.{same_Some, slice_get_within}
 use Rattle.arch_base.specs.Ids.{id_eq}
-use Rattle.arch_base.specs.declared.config.Config.{Config}
 use Rattle.arch_base.specs.declared.ids.Form.{Form}
 use Rattle.arch_base.specs.declared.ids.ObjectId.{ObjectId}
 use Rattle.arch_base.proofs.IdOrder.{id_eq-Decides}
 use Rattle.git_objects.specs.Objects.{blob_id_of}
 use Rattle.arch_model.specs.Archives.{Entry, Archive, is_message, messages, text_of}
 use Rattle.arch_model.specs.Shelves.{blob_text}
+use Rattle.arch_model.specs.declared.text_refusal.TextRefusal.{TextRefusal}
+use Rattle.arch_model.specs.declared.text_refusal.TextRefusal.TheVariants.{Damaged}
 use Rattle.arch_model.proofs.LiveEntries.{HasText}
-use Rattle.epoch_store.specs.Reads.{text_if}
+use Rattle.disk_model.specs.Disk.{Content}
+use Rattle.epoch_store.specs.Reads.{GivesTextOf, text_if}
 use Rattle.store_finding.specs.declared.entries.StoredEntry.{StoredEntry}
-use Rattle.store_finding.specs.Kept.{KeepsArchive, StoreState, stored_after, stored_at}
-use Rattle.fetch_course.specs.Numbers.{NamesMessages, named_at}
+use Rattle.store_finding.specs.Kept.{IsStoreWith, KeepsArchive, StoreState, stored_after, stored_at}
+use Rattle.fetch_course.specs.Numbers.{NamesMessages}
 use Rattle.fetch_course.proofs.Followers.{own-found}
-use Rattle.mirror_fetch.specs.Own.{IsBlobPlace, OwnAre, numbered, place_at}
+use Rattle.mirror_fetch.specs.Own.{IsBlobPlace, OwnAre, numbered}
 use Rattle.mirror_fetch.specs.declared.own.Own.{Own}
 
 -- Where no entry that is kept has a blob id, no text has it.
@@ -70,3 +72,20 @@ numbers_are form before (e ∷ es) n = number_step form (is_message e.kind) (e.n
 
 pub names-messages : (v : StoreState) (a : Archive) (own : Own) → KeepsArchive v a → OwnAre v.entries own → NamesMessages a own.numbers.blobs
 names-messages v a own keeps are n = are.numbers n ∙ (ap (λ (l : List StoredEntry). numbered l n) keeps.kept ∙ numbers_are a.config.form [] a.entries n)
+
+-- The index of a blob id is that of an entry.
+pub place-within : (entries : List StoredEntry) (blob : ObjectId) (i : ℕ) → IsBlobPlace entries blob (Some i) → i < length entries
+place-within entries blob i at = slice_get_within entries i at.0 at.1
+
+-- On the disk of a store's archive.
+pub own-none-on : (v : StoreState) (cache : List ℕ) (a : Archive) (content : Option Content) (blob : ObjectId) → IsBlobPlace v.entries blob None → IsStoreWith v cache a content → None ≡ blob_text a.config.form a.entries blob
+own-none-on v cache a None blob none store = absurd store
+own-none-on v cache a (Some k) blob none store = sym (own-missing v a blob store.keeps none)
+
+pub own-read-on : (v : StoreState) (cache : List ℕ) (a : Archive) (content : Option Content) (blob : ObjectId) (i : ℕ) (new : List ℕ) → IsBlobPlace v.entries blob (Some i) → IsStoreWith v cache a content → GivesTextOf a i [] new (Ok tt) → Some new ≡ blob_text a.config.form a.entries blob
+own-read-on v cache a None blob i new at store gives = absurd store
+own-read-on v cache a (Some k) blob i new at store gives = ap Some gives.2 ∙ own-read v a blob i gives.0 store.keeps at gives.1
+
+-- On that disk nothing is damaged.
+pub never-damaged : (a : Archive) (i : ℕ) (old new : List ℕ) (why : TextRefusal) (named found : ObjectId) → why ≡ Damaged named found → GivesTextOf a i old new (Err why) → ⊥
+never-damaged a i old new why named found is gives = (let wrong : GivesTextOf a i old new (Err (Damaged named found)) = subst (λ (w : TextRefusal). GivesTextOf a i old new (Err w)) is gives in wrong)

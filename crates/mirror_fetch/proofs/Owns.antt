@@ -1,5 +1,5 @@
 -- What is had of a store's entries, one entry after the other, and texts that were asked for.
-use Rattle.std.proofs.Common.{◌≡◌, ◌≢◌, ◌+◌, ◌<◌, ◌≤◌, ◌==◌, ◌&&◌, ℕ, zero, suc, Bool, true, false, cond, List, [], ◌∷◌, ◌++◌, length, take, get_or, slice_get, Option, Some, None, refl, sym, ap, subst, ◌∙◌, arith, if◌then◌else◌}
+use Rattle.std.proofs.Common.{◌≡◌, ◌≢◌, ◌+◌, ◌<◌, ◌==◌, ◌&&◌, ℕ, zero, suc, Bool, true, false, cond, List, [], ◌∷◌, ◌++◌, length, take, get_or, slice_get, Option, Some, None, refl, sym, ap, subst, ◌∙◌, arith, if◌then◌else◌}
 use Rattle.std.specs.List.{AllByRecursion}
 use Rattle.std.specs.Map.{lookup}
 use Rattle.std.specs.BTreeMap.{BTreeMap, is_at, UpdatesBy}
@@ -18,7 +18,7 @@ use Rattle.arch_model.specs.Archives.{is_message}
 use Rattle.store_finding.specs.declared.entries.StoredEntry.{StoredEntry}
 use Rattle.fetch_course.specs.Courses.{first_there}
 use Rattle.fetch_course.specs.Numbers.{NamesOneMore, named_at}
-use Rattle.mirror_fetch.specs.Own.{AskedWithin, IsBlobPlace, NumbersMore, OwnAre, PlacesAre, PutsAsked, PutsPlace, asked_text, item_if, numbered, place_at}
+use Rattle.mirror_fetch.specs.Own.{AskedWithin, IsBlobPlace, NumbersMore, OwnAre, PlacesAre, PutsAsked, PutsPlace, item_if, numbered, place_at}
 use Rattle.mirror_fetch.specs.declared.own.Places.{Places}
 use Rattle.mirror_fetch.specs.declared.own.Own.{Own}
 use Rattle.mirror_fetch.specs.declared.own.Asked.{Asked}

@@ -1,8 +1,8 @@
 -- A line was taken with a text that was known, or that was asked for.
-use Rattle.std.proofs.Common.{inl, inr, ◌≡◌, ◌⊎◌, ℕ, List, [], ◌∷◌, ◌++◌, Option, Some, None, Result, Ok, Err, IfErr, refl, sym, ap, subst, ◌∙◌}
+use Rattle.std.proofs.Common.{inl, inr, ◌≡◌, ℕ, List, [], ◌∷◌, ◌++◌, Option, Some, None, Result, Ok, Err, IfErr, OnErr, OnOk, refl, sym, ap, subst, ◌∙◌}
 use Rattle.arch_base.specs.declared.ids.Form.{Form}
 use Rattle.arch_base.specs.declared.ids.ObjectId.{ObjectId}
-use Rattle.disk_model.specs.Disk.{BothTold, Content, Unchanged, WhereTold}
+use Rattle.disk_model.specs.Disk.{Content, WhereTold}
 use Rattle.edge_io.specs.declared.peer.Peer.{Ghosts as Peer}
 use Rattle.edge_io.specs.declared.peer.Reply.{Reply}
 use Rattle.git_objects.specs.Objects.{blob_id_of}
@@ -11,15 +11,15 @@ use Rattle.arch_model.specs.Shelves.{blob_text}
 use Rattle.arch_model.specs.declared.line.EntryLine.{EntryLine}
 use Rattle.store_finding.specs.Indexes.{EntriesAreInOrder}
 use Rattle.store_finding.specs.Kept.{IsDiskWith, StoreState}
-use Rattle.store_finding.proofs.FindingTold.{where_any, where_both, where_so}
+use Rattle.store_finding.proofs.FindingTold.{where_any, where_so}
 use Rattle.epoch_store.specs.Adopting.{PlansAdopted}
 use Rattle.fetch_course.specs.declared.answer.FetchAnswer.{FetchAnswer}
 use Rattle.fetch_course.specs.declared.answer.FetchAnswer.TheVariants as answer
 use Rattle.fetch_course.specs.Asking.{AsksText, IsNoReply, MayHaveAsked}
-use Rattle.fetch_course.specs.Courses.{FetchCourse, entry_on, known_text, line_course, wrong_reply, wrong_text}
+use Rattle.fetch_course.specs.Courses.{FetchCourse, entry_on, known_text, line_course, wrong_reply}
 use Rattle.fetch_course.specs.Peering.{PeerGave, blob_path}
 use Rattle.fetch_course.proofs.Lines.{known-blob, right-reply}
-use Rattle.mirror_fetch.specs.Own.{IsLocal, PutsAsked, asked_text}
+use Rattle.mirror_fetch.specs.Own.{AskedWithin, IsLocal, PutsAsked, asked_text}
 use Rattle.mirror_fetch.specs.Taking.{AddsText, EndsAs, GoesLine, GoesOnWith, IsOfText, IsNotOwn, IsRefused, IsUnknown, TookEntries, TookLine, TookUnread}
 use Rattle.mirror_fetch.specs.declared.own.Asked.{Asked}
 use Rattle.mirror_fetch.specs.declared.taking.Taking.{Taking}
@@ -277,3 +277,15 @@ local-refused (answer.Renamed number had offered) local = absurd local
 local-refused (answer.Revived number) local = absurd local
 local-refused (answer.Behind had offered) local = absurd local
 local-refused (answer.BadCommit l c) local = absurd local
+
+same_why : (x y : FetchAnswer) → ◌≡◌ {A = Result Unit FetchAnswer} (Err x) (Err y) → x ≡ y
+same_why x y same = cc
+
+-- A text that came was added, and then kept or not.
+pub text-then : {P : Type 0} (p : Peer P) (x y : P) (v : StoreState) (at : ℕ) (line : EntryLine) (text : List ℕ) (came : AsksText p v.root.config.form line.blob x y (blob_path v.root.config.name line.blob) (Ok text)) (old added new : Taking) → added.asked ≡ old.asked → new.adoption ≡ added.adoption → AskedWithin added.asked → AddsAny v at line text old added (Ok tt) → (r : Result Unit FetchAnswer) → OnErr r (r ≡ Err answer.NoMemory) → (AskedWithin added.asked → OnOk r (PutsAsked added.asked new.asked line.blob text)) → TookUnread p x y v (IsUnknown line) at line old new r
+text-then p x y v at line text came old added new same kept within adds (Ok _) memory puts = text-kept p x y v at line came.0 came.1 came.3 text came.2 old added new same kept (puts within) adds
+text-then p x y v at line text came old added new same kept within adds (Err why) memory puts =
+    subst (λ (w : FetchAnswer). TookUnread p x y v (IsUnknown line) at line old new (Err w)) (sym (same_why why answer.NoMemory memory)) (text-unkept p x y v at line came.0 came.1 came.3 text came.2 old new)
+
+pub text-stop : {P : Type 0} (p : Peer P) (x y : P) (v : StoreState) (at : ℕ) (line : EntryLine) (text : List ℕ) (came : AsksText p v.root.config.form line.blob x y (blob_path v.root.config.name line.blob) (Ok text)) (old added new : Taking) (why : FetchAnswer) → IsOfText why → AddsAny v at line text old added (Err why) → TookUnread p x y v (IsUnknown line) at line old new (Err why)
+text-stop p x y v at line text came old added new why of adds = text-ended p x y v at line came.0 came.1 came.3 text came.2 old added new why of adds

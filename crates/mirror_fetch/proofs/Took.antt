@@ -1,8 +1,8 @@
 -- The entries that were taken on the disk of an archive, and one more.
-use Rattle.std.proofs.Common.{inl, inr, ◌≡◌, ◌≢◌, ◌⊎◌, ◌==◌, ◌&&◌, ◌||◌, ℕ, Bool, true, false, not, List, [], ◌∷◌, ◌++◌, length, Option, Some, None, is_some, IsSome, unwrap_or, refl, sym, ap, subst, ◌∙◌, arith, append-nil, if◌then◌else◌}
+use Rattle.std.proofs.lemmas.List.{length-append}
+use Rattle.std.proofs.Common.{◌-◌, slice_get, inl, inr, ◌≡◌, ℕ, Bool, true, false, List, [], ◌∷◌, ◌++◌, length, Option, Some, None, refl, sym, ap, subst, ◌∙◌, arith, if◌then◌else◌}
 use Rattle.std.specs.List.{AllByRecursion}
 use Rattle.std.proofs.lemmas.Option.{same_Some}
-use Rattle.std.proofs.lemmas.List.{append_cancel_right}
 use Rattle.arch_base.specs.Ids.{id_eq}
 use Rattle.arch_base.specs.declared.config.Config.{Config}
 use Rattle.arch_base.specs.declared.ids.Form.{Form}
@@ -10,7 +10,6 @@ use Rattle.arch_base.specs.declared.ids.ObjectId.{ObjectId}
 use Rattle.arch_base.proofs.IdOrder.{id_eq-Decides}
 use Rattle.disk_model.specs.Disk.{Content}
 use Rattle.git_objects.specs.Objects.{blob_id_of}
-use Rattle.mail_reader.specs.Ids.{own_id}
 use Rattle.arch_judge.specs.Indexes.{IsArchiveIndex}
 use Rattle.arch_judge.specs.declared.index.Index.{Index}
 use Rattle.arch_model.specs.Archives.{Entry, Archive}
@@ -20,15 +19,13 @@ use Rattle.arch_model.specs.declared.line.EntryLine.{EntryLine}
 use Rattle.arch_model.proofs.LiveEntries.{HasText}
 use Rattle.store_finding.specs.declared.entries.StoredEntry.{StoredEntry}
 use Rattle.store_finding.specs.Indexes.{EntriesAreInOrder, IndexesStored}
-use Rattle.store_finding.specs.Kept.{IsDiskWith, KeepsArchive, StoreState, stored_after, stored_at}
+use Rattle.store_finding.specs.Kept.{KeepsArchive, StoreState, stored_after, stored_at}
 use Rattle.store_finding.proofs.Growing.{stored_more}
-use Rattle.epoch_store.specs.Adopting.{AdoptionState, IsOnLine, IsOwnOnLine, PlansAdopted}
-use Rattle.fetch_course.specs.Courses.{entry_on, first_there, known_text, wrong_text}
+use Rattle.epoch_store.specs.Adopting.{AdoptionState, IsOwnOnLine, PlansAdopted}
+use Rattle.fetch_course.specs.Courses.{entry_on, first_there, known_text}
 use Rattle.fetch_course.proofs.Followers.{own-found}
 use Rattle.mirror_fetch.specs.Own.{PutsAsked, asked_text}
-use Rattle.mirror_fetch.specs.Taking.{IsTakingOf, TookEntries}
 use Rattle.mirror_fetch.specs.declared.own.Asked.{Asked}
-use Rattle.mirror_fetch.specs.declared.taking.Taking.{Taking}
 
 -- What is kept of the entries that are planned.
 pub planned-entries : (v : StoreState) (cache : List ℕ) (a : Archive) (k : Content) (es : List Entry) (s : AdoptionState) → PlansAdopted v cache a k es s → s.planned.entries ≡ stored_after a.config.form [] es
@@ -136,3 +133,15 @@ own-text-known a es blob text is = ap (λ (o : Option (List ℕ)). first_there o
 pub asked-text-known : (a : Archive) (es : List Entry) (asked : Asked) (blob : ObjectId) (found : Option (List ℕ)) → AskedAre a es asked → blob_text a.config.form a.entries blob ≡ None → found ≡ asked_text asked blob → known_text a.config.form a.entries es blob ≡ found
 asked-text-known a es asked blob found are none is =
     ap (λ (o : Option (List ℕ)). first_there o (blob_text a.config.form es blob)) none ∙ (are blob none ∙ sym is)
+
+-- The last item of a list.
+last_item : {X : Type 0} (xs : List X) (x : X) → slice_get (xs ++ x ∷ []) (length (xs ++ x ∷ []) - 1) ≡ Some x
+last_item {X} xs x =
+    let place : length (xs ++ x ∷ []) - 1 ≡ length xs = omega (arith, length-append xs (x ∷ [])) in
+    ap (slice_get (xs ++ x ∷ [])) place ∙ after xs where
+      after : (ys : List X) → slice_get (ys ++ x ∷ []) (length ys) ≡ Some x
+      after [] = refl
+      after (y ∷ ys) = after ys
+
+pub last-is : (kept : List StoredEntry) (s : StoredEntry) (list : List StoredEntry) (found : StoredEntry) → list ≡ kept ++ s ∷ [] → Some found ≡ slice_get list (length list - 1) → found ≡ s
+last-is kept s list found is here = same_Some found s (here ∙ (ap (λ (l : List StoredEntry). slice_get l (length l - 1)) is ∙ last_item kept s))

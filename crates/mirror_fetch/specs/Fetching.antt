@@ -1,5 +1,5 @@
 -- What a fetch promises, over the ghost members of a disk and of a peer.
-use Rattle.std.specs.Prelude.{◌≡◌, ◌≢◌, ◌==◌, ℕ, Bool, List, [], ◌∷◌, ◌++◌, Result, Ok, Err, if◌then◌else◌}
+use Rattle.std.specs.Prelude.{◌≡◌, ◌≢◌, ◌==◌, ℕ, Bool, true, List, [], ◌∷◌, ◌++◌, Result, Ok, Err, if◌then◌else◌}
 use Rattle.std.specs.Bool.{MatchBool}
 use Rattle.arch_base.specs.Counts.{RoseIf}
 use Rattle.arch_base.specs.declared.ids.Form.{Form}

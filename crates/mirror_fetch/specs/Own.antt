@@ -6,7 +6,6 @@ use Rattle.arch_base.specs.Ids.{id_cmp, id_eq}
 use Rattle.arch_base.specs.declared.ids.ObjectId.{ObjectId}
 use Rattle.arch_model.specs.Archives.{is_message}
 use Rattle.store_finding.specs.declared.entries.StoredEntry.{StoredEntry}
-use Rattle.store_finding.specs.Kept.{StoreState}
 use Rattle.fetch_course.specs.Courses.{first_there}
 use Rattle.fetch_course.specs.Numbers.{named_at}
 use Rattle.fetch_course.specs.declared.answer.FetchAnswer.{FetchAnswer}

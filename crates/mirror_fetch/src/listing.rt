@@ -1,8 +1,9 @@
 //! Asks for a list, and tells whether it is the store's own.
 //! Allocates.
-ghost use Rattle.std.specs.Prelude.{◌≡◌, Err, IfOk, IsFalse, IsTrue};
+ghost use Rattle.std.specs.Prelude.{◌≡◌, ◌≢◌, Err, IfOk, IsFalse, IsTrue};
 ghost use Rattle.arch_base.specs.Counts.{RoseIf};
 ghost use Rattle.fetch_course.specs.declared.answer.FetchAnswer.{FetchAnswer as Answer};
+ghost use Rattle.epoch_store.specs.Reads.{line_of};
 ghost use Rattle.mirror_wire.specs.Rules.{IsMirrorList};
 ghost use Rattle.mirror_fetch.specs.Listing.{AsksList, ReadsReply, kept_lines};
 
@@ -13,6 +14,7 @@ use epoch_store::Store;
 use fetch_course::{FetchAnswer, ask, list_path};
 use mirror_wire::{ListRefusal, MirrorList, read};
 use std::alloc::Global;
+use store_finding::StoredEntry;
 
 /// Asks for the list of the archive with these settings, and reads it.
 ///
@@ -25,6 +27,7 @@ pub(crate) fn ask_list<P: Peer>(
 ) -> Result<MirrorList, FetchAnswer>
     ensures valid { IfOk result (IsMirrorList config.now.form) }
     ensures asks { AsksList P.Peer peer.old peer.new config.now.name config.now.form result }
+    ensures disk { result ≢ Err Answer.DiskFault }
     ensures cause { RoseIf (result ≡ Err Answer.PeerFault) (P.faults peer.old) (P.faults peer.new) }
 {
     let path = match list_path(alloc, &config.name) {
@@ -51,16 +54,30 @@ fn read_reply(alloc: Global, form: Form, reply: &Reply) -> Result<MirrorList, Fe
     }
 }
 
-/// Returns whether the entries of a store have just these lines, in order.
-fn has_lines(store: &Store, lines: &[EntryLine]) -> bool
-    ensures on { IsTrue result → lines.now ≡ kept_lines store.now.entries }
-    ensures off { lines.now ≡ kept_lines store.now.entries → IsTrue result }
+/// Returns whether a line is that of an entry.
+fn is_line(entry: &StoredEntry, line: &EntryLine) -> bool
+    ensures on { IsTrue result → line.now ≡ line_of entry.now }
+    ensures off { line.now ≡ line_of entry.now → IsTrue result }
 {
-    if store.stored().len() != lines.len() {
+    entry.seen.kind == line.kind
+        && entry.number == line.number
+        && entry.epoch == line.epoch
+        && entry.seen.moment == line.secs
+        && entry.seen.blob == line.blob
+        && entry.seen.size == line.size
+        && entry.seen.commit == line.commit
+}
+
+/// Returns whether entries have just these lines, in order.
+fn has_lines(entries: &[StoredEntry], lines: &[EntryLine]) -> bool
+    ensures on { IsTrue result → lines.now ≡ kept_lines entries.now }
+    ensures off { lines.now ≡ kept_lines entries.now → IsTrue result }
+{
+    if entries.len() != lines.len() {
         return false;
     }
     for index in 0..lines.len() {
-        if store.entry(index as u64) != Some(lines[index]) {
+        if !is_line(&entries[index], &lines[index]) {
             return false;
         }
     }
@@ -74,5 +91,5 @@ pub(crate) fn is_other(store: &Store, list: &MirrorList) -> bool
     ensures other { list.now.lines ≡ kept_lines store.now.entries → list.now.next ≡ store.now.root.next
         → IsFalse result }
 {
-    list.next != store.next_number() || !has_lines(store, list.lines.as_slice())
+    list.next != store.next_number() || !has_lines(store.stored(), list.lines.as_slice())
 }
