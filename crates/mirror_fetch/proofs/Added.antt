@@ -1,5 +1,5 @@
 -- The entry of a line was added with its text, and checked.
-use Rattle.std.proofs.Common.{inl, inr, ◌≡◌, ℕ, Bool, true, false, List, [], ◌∷◌, ◌++◌, Option, Some, None, Result, Ok, Err, OnOk, sym, ap, subst, ◌∙◌}
+use Rattle.std.proofs.Common.{inl, inr, ◌≡◌, ℕ, Bool, false, List, [], ◌∷◌, ◌++◌, Option, Some, None, Result, Ok, Err, OnOk, sym, ap, subst, ◌∙◌}
 use Rattle.arch_base.specs.declared.ids.Form.{Form}
 use Rattle.arch_base.specs.declared.ids.ObjectId.{ObjectId}
 use Rattle.arch_judge.specs.Indexes.{IsArchiveIndex}
@@ -15,14 +15,13 @@ use Rattle.store_finding.specs.Kept.{IsDiskWith, IsStoreWith, StoreState}
 use Rattle.store_finding.proofs.FindingTold.{where_both}
 use Rattle.epoch_store.specs.Adopting.{AddsLine, AdoptionState, IsAdoptionOf, IsKeptOn, KeepsLine, PlansAdopted, PlansMore}
 use Rattle.fetch_course.specs.declared.answer.FetchAnswer.{FetchAnswer}
-use Rattle.fetch_course.specs.declared.answer.FetchAnswer.TheVariants as answer
 use Rattle.fetch_course.specs.Courses.{entry_on, misfits, wrong_text}
 use Rattle.arch_model.specs.Shelves.{blob_text}
 use Rattle.mirror_fetch.specs.Own.{AskedWithin, IsLocal, asked_text}
 use Rattle.mirror_fetch.specs.Taking.{AddsText, ChecksAdded, IsTakingOf, TookLine, answer_by, wrong_commit}
 use Rattle.mirror_fetch.specs.declared.own.Asked.{Asked}
 use Rattle.mirror_fetch.specs.declared.taking.Taking.{Taking}
-use Rattle.mirror_fetch.proofs.Goes.{fits-then, misfits-then}
+use Rattle.mirror_fetch.proofs.Goes.{fits-then}
 use Rattle.mirror_fetch.proofs.Took.{index-of, last-kept}
 
 module _ (v : StoreState) (at : ℕ) (line : EntryLine) (text : List ℕ) (old new : Taking) (adoption : AdoptionState) (taking : IsTakingOf v old) (of : IsAdoptionOf v adoption) (adds : AddsLine v.root.config.form line text old.adoption.planned.entries adoption.planned.entries) (result : Result Unit FetchAnswer) (planned : new.adoption ≡ adoption) (asked : new.asked ≡ old.asked)
@@ -55,12 +54,6 @@ module _ (v : StoreState) (at : ℕ) (line : EntryLine) (text : List ℕ) (old n
         text_by k cache a es after
         (fits-then a.config.form at es line text adds.stored (sym (tells a.config.form es index) ∙ fits) (ap (λ (s : StoredEntry). s.seen.commit) is))
         result checked
-
--- A text that is none for its line.
-pub misfit-text : (v : StoreState) (at : ℕ) (line : EntryLine) (text : List ℕ) (old : Taking) → IsTakingOf v old → (b : Bool) → ((form : Form) (before : List Entry) → IsArchiveIndex form before old.index → b ≡ misfits before line text) → b ≡ true → (k : Content) (cache : List ℕ) (a : Archive) (es : List Entry) → IsDiskWith v cache a k → PlansAdopted v cache a k es old.adoption → EntriesAreInOrder es
-    → AddsText v cache a k at es line text old (Err (answer.BadList at))
-misfit-text v at line text old taking b tells is k cache a es own before ordered =
-    inr (misfits-then a.config.form at es line text (sym (tells a.config.form es (index-of v cache a k es old.adoption old.index before ordered taking.index)) ∙ is))
 
 -- An own entry that stays was taken into the index.
 pub kept-taking : (v : StoreState) (line : EntryLine) (old new : Taking) (adoption : AdoptionState) (commit : ObjectId) (result : Result Unit FetchAnswer) → IsTakingOf v old → IsAdoptionOf v adoption → IsKeptOn line (Some commit) old.adoption.planned.entries adoption.planned.entries → new.adoption ≡ adoption → new.asked ≡ old.asked

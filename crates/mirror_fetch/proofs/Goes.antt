@@ -199,10 +199,3 @@ by_commit false line s commit bad fits is = ap (λ (c : ObjectId). if id_eq c li
 
 pub fits-then : (form : Form) (at : ℕ) (es : List Entry) (line : EntryLine) (text : List ℕ) (s : StoredEntry) → misfits es line text ≡ false → s.seen.commit ≡ commit_on form es line text → wrong_text form at es line text ≡ wrong_commit line s
 fits-then form at es line text s fits is = by_commit (misfits es line text) line s (commit_on form es line text) (answer.BadList at) fits is
-
-misfit_if : (m : Bool) (bad : FetchAnswer) (other : Option FetchAnswer) → m ≡ true → (if m then Some bad else other) ≡ Some bad
-misfit_if true bad other is = refl
-misfit_if false bad other is = absurd (let wrong : false ≡ true = is in cc)
-
-pub misfits-then : (form : Form) (at : ℕ) (es : List Entry) (line : EntryLine) (text : List ℕ) → misfits es line text ≡ true → wrong_text form at es line text ≡ Some (answer.BadList at)
-misfits-then form at es line text is = misfit_if (misfits es line text) (answer.BadList at) (if id_eq (commit_on form es line text) line.commit then None else Some (answer.BadCommit line.commit (commit_on form es line text))) is

@@ -11,5 +11,4 @@ mod TextsTook
 mod KeptLines
 mod Lists
 mod Starts
-mod SameLines
 mod Added

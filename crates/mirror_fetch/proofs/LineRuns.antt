@@ -78,9 +78,6 @@ module _ (form : Form) (next : ℕ) (lines : List EntryLine) (follow : EachMayFo
   pub follows-at : MayFollow form next (take n lines) line
   follows-at = follow_left.0
 
-  pub before-at : (entries : List StoredEntry) → AreBefore (drop n lines) entries → AreUpToEpoch line.epoch entries
-  before-at entries before = (let all : AreBefore (line ∷ drop (n + 1) lines) entries = subst (λ (l : List EntryLine). AreBefore l entries) left_is before in all.0)
-
   pub before-next : (old new : Taking) → AreBefore (drop n lines) old.adoption.planned.entries → TakesOne line old new → AreBefore (drop (n + 1) lines) new.adoption.planned.entries
   before-next old new before one =
       let all : AreBefore (line ∷ drop (n + 1) lines) old.adoption.planned.entries = subst (λ (l : List EntryLine). AreBefore l old.adoption.planned.entries) left_is before in
@@ -127,7 +124,6 @@ starts-lines p x v content next lines t starts = record { given = []; put = []; 
 module _ (v : StoreState) (next : ℕ) (lines : List EntryLine) (follow : EachMayFollow v.root.config.form next [] lines) (n : ℕ) (line : EntryLine) (within : n < length lines) (is : line ≡ get_or lines n line) (given some : List Reply) (put then_ : List (List ℕ)) (old new : Taking) where
   -- On the disk of an archive.
   module _ (k : Content) (cache : List ℕ) (a : Archive) (own : IsDiskWith v cache a k) (so : LinesSoFar v cache a k next lines n given put old) where
-
     to_line : (more : List Reply) → lines_course a next 4 [] lines (given ++ more) ≡ after_paths put (line_course a (n + 4) so.es line (known_text a.config.form a.entries so.es line.blob) more (λ (left : List Reply) (text : List ℕ). lines_course a next (n + 4 + 1) (so.es ++ entry_on line text ∷ []) (drop (n + 1) lines) left))
     to_line more = so.course more ∙ ap (after_paths put) (course_at v.root.config.form next lines follow n line within is a (n + 4) so.es more)
 
@@ -186,9 +182,9 @@ all_lines v cache a k next lines n given put t all so = (
   so.es,
   so.took.plans,
   ap (lines_course a next 4 [] lines) (sym (append-nil given))
-  ∙ (so.course []
-  ∙ (ap (after_paths put) (all_held a next (n + 4) so.es (drop n lines) [] (drop_all n lines all))
-  ∙ (λ i. record { asked = append-nil put i; stage = HoldsAll (archive_with a so.es next) }))),
+      ∙ (so.course []
+      ∙ (ap (after_paths put) (all_held a next (n + 4) so.es (drop n lines) [] (drop_all n lines all))
+      ∙ (λ i. record { asked = append-nil put i; stage = HoldsAll (archive_with a so.es next) }))),
 )
 
 pub lines-all : {P : Type 0} (p : Peer P) (x y : P) (v : StoreState) (c : Option Content) (next : ℕ) (lines : List EntryLine) (n : ℕ) (t : Taking) → length lines ≤ n → TookSoFar p x y v c next lines n t → TookLines p x y v c next lines t (Ok tt)
@@ -207,9 +203,6 @@ any_line lines n d less = same_Some (get_or lines n d) (get_or lines n (get_or l
 module _ (form : Form) (next : ℕ) (lines : List EntryLine) (follow : EachMayFollow form next [] lines) (n : ℕ) (d : EntryLine) (within : n < length lines) where
   pub read-follows : MayFollow form next (take n lines) (get_or lines n d)
   read-follows = follows-at form next lines follow n (get_or lines n d) within (any_line lines n d within)
-
-  pub read-before : (entries : List StoredEntry) → AreBefore (drop n lines) entries → AreUpToEpoch (get_or lines n d).epoch entries
-  read-before entries before = before-at form next lines follow n (get_or lines n d) within (any_line lines n d within) entries before
 
   pub read-next : (old new : Taking) → AreBefore (drop n lines) old.adoption.planned.entries → TakesOne (get_or lines n d) old new → AreBefore (drop (n + 1) lines) new.adoption.planned.entries
   read-next old new before one = before-next form next lines follow n (get_or lines n d) within (any_line lines n d within) old new before one

@@ -7,7 +7,6 @@ use Rattle.arch_model.specs.Archives.{Archive}
 use Rattle.mirror_wire.specs.declared.list.MirrorList.{MirrorList}
 use Rattle.mirror_wire.specs.declared.list.ListRefusal.{ListRefusal}
 use Rattle.mirror_wire.specs.declared.list.ListRefusal.TheVariants as list
-use Rattle.mirror_wire.specs.Reading.{ReadsList}
 use Rattle.fetch_course.specs.declared.answer.FetchAnswer.{FetchAnswer}
 use Rattle.fetch_course.specs.declared.answer.FetchAnswer.TheVariants as answer
 use Rattle.fetch_course.specs.Asking.{IsNoReply, MayHaveAsked}
@@ -133,32 +132,12 @@ module _ {P : Type 0} (p : Peer P) (x y : P) (name : List ℕ) (form : Form) (pa
         (reading_end why reads.3).0;
   }
 
--- The answers by a reply are no fault of the peer.
-pub reading-no-peer : (why : FetchAnswer) → IsOfReading why → why ≡ answer.PeerFault → ⊥
-reading-no-peer why of same = subst IsOfReading same of
-
 -- A reply that is read.
 pub bad-reply : (form : Form) (reply : Reply) → (reply.status == 200) ≡ false → ReadsReply form reply (Err (answer.BadReply reply.status))
 bad-reply form reply other_status = (
   Err list.NoMemory,
   (λ good. absurd (let wrong : true ≡ false = sym good ∙ other_status in cc)),
   (λ a replies. ap (λ (t : Bool). if t then read_course a replies (Err list.NoMemory) else comes_to (answer.BadReply reply.status)) other_status),
-  tt,
-)
-
-pub bad-list : (form : Form) (reply : Reply) (n : ℕ) → (reply.status == 200) ≡ true → ReadsList form reply.body (Err (list.BadList n)) → ReadsReply form reply (Err (answer.BadList n))
-bad-list form reply n good_status bad = (
-  Err (list.BadList n),
-  (λ good. bad),
-  (λ a replies. ap (λ (t : Bool). if t then read_course a replies (Err (list.BadList n)) else comes_to (answer.BadReply reply.status)) good_status),
-  tt,
-)
-
-pub no-memory : (form : Form) (reply : Reply) → (reply.status == 200) ≡ true → ReadsReply form reply (Err answer.NoMemory)
-no-memory form reply good_status = (
-  Err list.NoMemory,
-  (λ good. tt),
-  (λ a replies. ap (λ (t : Bool). if t then read_course a replies (Err list.NoMemory) else comes_to (answer.BadReply reply.status)) good_status),
   tt,
 )
 

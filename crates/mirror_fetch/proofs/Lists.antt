@@ -46,12 +46,6 @@ list_end (answer.WrongId listed found) of = absurd of
 list_end (answer.Changed id) of = absurd of
 list_end answer.DiskFault of = absurd of
 
-pub list-no-disk : (why : FetchAnswer) → IsOfList (Some why) → why ≡ answer.DiskFault → ⊥
-list-no-disk why of same = (let is : IsOfList (Some answer.DiskFault) = subst (λ (w : FetchAnswer). IsOfList (Some w)) same of in is)
-
-pub list-no-peer : (why : FetchAnswer) → IsOfList (Some why) → why ≡ answer.PeerFault → ⊥
-list-no-peer why of same = (let is : IsOfList (Some answer.PeerFault) = subst (λ (w : FetchAnswer). IsOfList (Some w)) same of in is)
-
 -- What is said of a list on any archive of a store.
 abbrev pub WrongBy : StoreState → Own → MirrorList → Option FetchAnswer → Type 0
 WrongBy v own l wrong = (a : Archive) → NamesMessages a own.numbers.blobs → a.next ≡ v.root.next → a.config.name ≡ v.root.config.name → wrong ≡ wrong_list a l
@@ -163,8 +157,7 @@ module _ {P : Type 0} (p : Peer P) (x y : P) (v : StoreState) (content : Option 
       reads = asks.reads took.given;
       refused = tt;
       goes = where_so _ _ content took.goes (λ k goes cache a own.
-          let went = goes cache a own in
-          (
+          let went = goes cache a own in (
             went.0,
             went.1,
             over_is a own.keeps took.given ∙ ap (after_paths asks.put) went.2,

@@ -4,20 +4,16 @@ use Rattle.std.specs.List.{AllByRecursion}
 use Rattle.std.specs.Map.{lookup}
 use Rattle.std.specs.BTreeMap.{BTreeMap, is_at, UpdatesBy}
 use Rattle.std.specs.declared.cmp.Ordering.{Ordering}
-use Rattle.std.specs.Ordering.{nat_cmp}
 use Rattle.std.proofs.lemmas.List.{take_more, length-append, length-take-le}
-use Rattle.std.proofs.lemmas.Bool.Decides.{nat_tests}
 use Rattle.std.proofs.lemmas.Option.{slice_get_within, same_Some}
 use Rattle.arch_base.specs.Ids.{id_cmp, id_eq}
 use Rattle.arch_base.specs.declared.ids.ObjectId.{ObjectId}
 use Rattle.arch_base.specs.contracts.ids.ObjectIdOrd.TheImpl as order
 use Rattle.arch_base.proofs.IdOrder.{derived, is_at-ids, id_eq-Decides, id_eq-flip}
-use Rattle.git_objects.specs.declared.entry_kind.EntryKind.{EntryKind}
-use Rattle.git_objects.specs.declared.entry_kind.EntryKind.TheVariants.{Message, Deletion}
 use Rattle.arch_model.specs.Archives.{is_message}
 use Rattle.store_finding.specs.declared.entries.StoredEntry.{StoredEntry}
 use Rattle.fetch_course.specs.Courses.{first_there}
-use Rattle.fetch_course.specs.Numbers.{NamesOneMore, named_at}
+use Rattle.fetch_course.specs.Numbers.{named_at}
 use Rattle.mirror_fetch.specs.Own.{AskedWithin, IsBlobPlace, NumbersMore, OwnAre, PlacesAre, PutsAsked, PutsPlace, item_if, numbered, place_at}
 use Rattle.mirror_fetch.specs.declared.own.Places.{Places}
 use Rattle.mirror_fetch.specs.declared.own.Own.{Own}
@@ -79,13 +75,6 @@ numbered-push (x ∷ xs) e n = numbered_step (is_message x.seen.kind && x.number
 pub numbers-more : (xs : List StoredEntry) (e : StoredEntry) (old new : BTreeMap ℕ ObjectId) → ((n : ℕ) → named_at old n ≡ numbered xs n) → NumbersMore old new e → (n : ℕ) → named_at new n ≡ numbered (xs ++ e ∷ []) n
 numbers-more xs e old new before more n = more n ∙ (ap (λ (o : Option ObjectId). first_there o (numbered (e ∷ []) n)) (before n) ∙ sym (numbered-push xs e n))
 
--- Of no entries nothing is had.
-pub own-none : (own : Own) → own.places.places.entries ≡ [] → own.numbers.blobs.entries ≡ [] → OwnAre [] own
-own-none own no_places no_numbers = record {
-  places = λ blob. subst (IsBlobPlace [] blob) (sym (no-place own.places.places no_places blob)) tt;
-  numbers = λ n. ap (λ (l : List (ℕ × ObjectId)). lookup (is_at (nat_cmp n)) l) no_numbers;
-}
-
 -- One more entry of a list.
 pub own-more : (entries : List StoredEntry) (i : ℕ) (e : StoredEntry) (old new : Own) → i < length entries → e ≡ get_or entries i e → OwnAre (take i entries) old → PutsPlace old.places new.places e.seen.blob i → NumbersMore old.numbers.blobs new.numbers.blobs e → OwnAre (take (i + 1) entries) new
 own-more entries i e old new less is before puts more =
@@ -117,23 +106,3 @@ asked-more old new blob text texts puts within = record {
       ∙ (ap (item_if (old.texts ++ text ∷ [])) (puts q)
       ∙ asked_step old.texts text (id_eq q blob) (length old.texts) (place_at old.places.places q) refl (within q));
 }
-
--- The number of one entry.
-flip_test : (n m : ℕ) → (n == m) ≡ (m == n)
-flip_test n m = by (n == m) (m == n) refl refl where
-  by : (t u : Bool) → (n == m) ≡ t → (m == n) ≡ u → t ≡ u
-  by true true one two = refl
-  by true false one two = absurd (let same : n ≡ m = grind (arith, nat_tests, one) in let hit : (m == n) ≡ true = grind (arith, nat_tests, same) in let wrong : true ≡ false = sym hit ∙ two in cc)
-  by false true one two = absurd (let same : m ≡ n = grind (arith, nat_tests, two) in let hit : (n == m) ≡ true = grind (arith, nat_tests, same) in let wrong : true ≡ false = sym hit ∙ one in cc)
-  by false false one two = refl
-
-pub message-more : (old new : BTreeMap ℕ ObjectId) (e : StoredEntry) → e.seen.kind ≡ Message → NamesOneMore old new e.number e.seen.blob → NumbersMore old new e
-message-more old new e kind more n =
-    more n ∙ ap (λ (t : Bool). first_there (named_at old n) (if t then Some e.seen.blob else None)) (flip_test n e.number ∙ ap (λ (k : EntryKind). is_message k && e.number == n) (sym kind))
-
-there_none : {X : Type 0} (o : Option X) → o ≡ first_there o None
-there_none None = refl
-there_none (Some x) = refl
-
-pub deletion-more : (old : BTreeMap ℕ ObjectId) (e : StoredEntry) → e.seen.kind ≡ Deletion → NumbersMore old old e
-deletion-more old e kind n = there_none (named_at old n) ∙ ap (λ (k : EntryKind). first_there (named_at old n) (if is_message k && e.number == n then Some e.seen.blob else None)) (sym kind)

@@ -18,7 +18,7 @@ use Rattle.fetch_course.specs.declared.answer.FetchAnswer.TheVariants as answer
 use Rattle.fetch_course.specs.Asking.{AsksText, IsNoReply, MayHaveAsked}
 use Rattle.fetch_course.specs.Courses.{FetchCourse, entry_on, known_text, line_course, wrong_reply}
 use Rattle.fetch_course.specs.Peering.{PeerGave, blob_path}
-use Rattle.fetch_course.proofs.Lines.{known-blob, right-reply}
+use Rattle.fetch_course.proofs.Lines.{known-blob}
 use Rattle.mirror_fetch.specs.Own.{AskedWithin, IsLocal, PutsAsked, asked_text}
 use Rattle.mirror_fetch.specs.Taking.{AddsText, EndsAs, GoesLine, GoesOnWith, IsOfText, IsNotOwn, IsRefused, IsUnknown, TookEntries, TookLine, TookUnread}
 use Rattle.mirror_fetch.specs.declared.own.Asked.{Asked}
@@ -62,18 +62,6 @@ reply_refused (answer.Renamed number had offered) of = absurd of
 reply_refused (answer.Revived number) of = absurd of
 reply_refused (answer.Behind had offered) of = absurd of
 reply_refused answer.DiskFault of = absurd of
-
-pub text-no-fault : (why : FetchAnswer) → IsOfText why → why ≡ answer.PeerFault → ⊥
-text-no-fault why of same = subst IsOfText same of
-
-pub text-no-disk : (why : FetchAnswer) → IsOfText why → why ≡ answer.DiskFault → ⊥
-text-no-disk why of same = subst IsOfText same of
-
-pub reply-no-disk : (why : FetchAnswer) → IsOfReply why → why ≡ answer.DiskFault → ⊥
-reply-no-disk why of same = subst IsOfReply same of
-
-pub none-no-disk : (why : FetchAnswer) → IsNoReply why → why ≡ answer.DiskFault → ⊥
-none-no-disk why of same = subst IsNoReply same of
 
 -- With a text that is known.
 module _ (v : StoreState) (at : ℕ) (line : EntryLine) (text : List ℕ) (old new : Taking) (same : new.asked ≡ old.asked) (k : Content) (cache : List ℕ) (a : Archive) (es : List Entry) (own : IsDiskWith v cache a k) (took : TookEntries v cache a k es old) (ordered : EntriesAreInOrder es) (known : known_text a.config.form a.entries es line.blob ≡ Some text) where
@@ -164,9 +152,6 @@ module _ {P : Type 0} (p : Peer P) (x y : P) (v : StoreState) (at : ℕ) (line :
     }
 
     module _ (right : wrong_reply v.root.config.form line.blob reply ≡ None) (text : List ℕ) (body : reply.body ≡ text) where
-      pub blob-came : blob_id_of v.root.config.form text ≡ line.blob
-      blob-came = ap (blob_id_of v.root.config.form) (sym body) ∙ right-reply v.root.config.form line.blob reply right
-
       pub text-ended : (old added new : Taking) (why : FetchAnswer) → IsOfText why → AddsAny v at line text old added (Err why) → TookUnread p x y v (IsUnknown line) at line old new (Err why)
       text-ended old added new why of adds = record {
         given = reply ∷ [];
@@ -198,8 +183,7 @@ module _ {P : Type 0} (p : Peer P) (x y : P) (v : StoreState) (at : ℕ) (line :
         goes = λ k cache a es own took ordered unknown.
             let went = adds k cache a es own took.plans ordered in
             let goes = reply-goes a at es line unknown reply (right_of a None (form-of v a own.keeps) right) text body went.0 in
-            let blob_is : blob_id_of a.config.form text ≡ line.blob = goes.blob in
-            (
+            let blob_is : blob_id_of a.config.form text ≡ line.blob = goes.blob in (
               text,
               subst (λ (l : List (List ℕ)). GoesOnWith a at es line (reply ∷ []) l text) (paths_are a (name-of v a own.keeps)) goes,
               record {
@@ -215,10 +199,6 @@ module _ {P : Type 0} (p : Peer P) (x y : P) (v : StoreState) (at : ℕ) (line :
   pub text-refused-ask : (old new : Taking) (why : FetchAnswer) → AsksText p v.root.config.form line.blob x y path (Err why) → TookUnread p x y v (IsUnknown line) at line old new (Err why)
   text-refused-ask old new why (inl came) = wrong_text_came came.0 came.1 old new why came.2
   text-refused-ask old new why (inr none) = no_text old new why none.0 none.1
-
-  pub ask-no-disk : (why : FetchAnswer) → AsksText p v.root.config.form line.blob x y path (Err why) → why ≡ answer.DiskFault → ⊥
-  ask-no-disk why (inl came) same = reply-no-disk why (reply-why v.root.config.form line.blob came.0 why came.2) same
-  ask-no-disk why (inr none) same = none-no-disk why none.0 same
 
 -- Memory ran out before anything was asked for.
 pub unread-memory : {P : Type 0} (p : Peer P) (x : P) (v : StoreState) (Holds : Archive → List Entry → Type 0) (at : ℕ) (line : EntryLine) (old new : Taking) → TookUnread p x x v Holds at line old new (Err answer.NoMemory)

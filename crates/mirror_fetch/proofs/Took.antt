@@ -55,7 +55,7 @@ pub last-kept : (v : StoreState) (cache : List ℕ) (a : Archive) (k : Content) 
 last-kept v cache a k es e old new s before after more =
     let front : old.planned.entries ≡ stored_after a.config.form [] es = planned-entries v cache a k es old before in
     let both : stored_after a.config.form [] es ++ s ∷ [] ≡ stored_after a.config.form [] es ++ stored_at a.config.form es e ∷ [] =
-        ap (λ (l : List StoredEntry). l ++ s ∷ []) (sym front) ∙ (sym more ∙ (planned-entries v cache a k (es ++ e ∷ []) new after ∙ stored_more a.config.form [] es e)) in
+    ap (λ (l : List StoredEntry). l ++ s ∷ []) (sym front) ∙ (sym more ∙ (planned-entries v cache a k (es ++ e ∷ []) new after ∙ stored_more a.config.form [] es e)) in
     same_last (stored_after a.config.form [] es) s (stored_at a.config.form es e) both
 
 -- The text of a blob id, with one more entry.
