@@ -36,6 +36,7 @@ const OTHER_NAME: &[u8] =
 
 /// The list of an archive from which the mail was purged, and that of a new one.
 const PURGED: &[u8] = b"piv2 list 1\nlist\n2\nend\n";
+
 const NEW: &[u8] = b"piv2 list 1\nlist\n1\nend\n";
 
 /// No bytes.
@@ -45,7 +46,9 @@ const NOTHING: &[u8] = b"";
 const REMOVED: &[u8] =
     b"piv2 list 1\nlist\n2\nm 1 0 1706781700 1d023c572ccd6f3cc82ae855343346b043adaba5 103 d621b450ae1fbf27a31c9879d84eb9de5473a8b9\nd 1 0 1706781800 1d023c572ccd6f3cc82ae855343346b043adaba5 103 9bd6679b0a84e8d56dfbfdbd3183a1c7c5faeef3\nend\n";
 
-/// The path of the mail.
+/// The paths of the list and of the mail.
+const LISTING: &[u8] = b"/list/_/list";
+
 const BLOB: &[u8] = b"/list/_/blob/1d023c572ccd6f3cc82ae855343346b043adaba5";
 
 /// What a peer gives to one fetch: replies, each a status and a body. After them it fails.
@@ -95,7 +98,11 @@ fn answer_from<D: Disk>(
 }
 
 /// The same with a new peer that gives replies. Returns also how many paths it was asked for.
-fn answer_to(alloc: Global, disk: &mut MemDisk, given: Given) -> Result<(FetchAnswer, usize), OpenRefusal> {
+fn answer_to(
+    alloc: Global,
+    disk: &mut MemDisk,
+    given: Given,
+) -> Result<(FetchAnswer, usize), OpenRefusal> {
     let Ok(mut peer) = peer_of(alloc, given) else {
         return Err(OpenRefusal::NoMemory);
     };
@@ -142,7 +149,15 @@ fn a_mirror_takes_what_is_listed_and_then_nothing(rt: HostRuntime) -> Result<(),
         (&[(200, PURGED)], true, 1),
         (&[(200, PURGED)], false, 1),
     ] {
-        assert!(rt; fetches(rt.alloc(), &mut disk, given, FetchAnswer::Ok { changed }, paths)?);
+        assert!(rt;
+            fetches(
+                rt.alloc(),
+                &mut disk,
+                given,
+                FetchAnswer::Ok { changed },
+                paths
+            )?
+        );
     }
     Ok(())
 }
@@ -165,10 +180,22 @@ fn a_mirror_refuses_what_does_not_fit(rt: HostRuntime) -> Result<(), Fail> {
         (&[(200, NOTHING)], FetchAnswer::BadList(1), 1),
         (&[(200, OTHER_NAME)], FetchAnswer::BadList(2), 1),
         (&[(200, LIST)], FetchAnswer::PeerFault, 2),
-        (&[(200, LIST), (404, NOTHING)], FetchAnswer::Changed { id }, 2),
-        (&[(200, LIST), (500, NOTHING)], FetchAnswer::BadReply(500), 2),
+        (
+            &[(200, LIST), (404, NOTHING)],
+            FetchAnswer::Changed { id },
+            2,
+        ),
+        (
+            &[(200, LIST), (500, NOTHING)],
+            FetchAnswer::BadReply(500),
+            2,
+        ),
         (&[(200, LIST), (200, SECOND)], wrong, 2),
-        (&[(200, OTHER_SIZE), (200, FIRST)], FetchAnswer::BadList(4), 2),
+        (
+            &[(200, OTHER_SIZE), (200, FIRST)],
+            FetchAnswer::BadList(4),
+            2,
+        ),
         (&[(200, OTHER_COMMIT), (200, FIRST)], commit, 2),
     ] {
         assert!(rt; fetches(rt.alloc(), &mut disk, given, answer, paths)?);
@@ -186,7 +213,11 @@ fn a_mirror_keeps_its_numbers(rt: HostRuntime) -> Result<(), Fail> {
     };
     let behind = FetchAnswer::Behind { had: 2, offered: 1 };
     for (given, answer, paths) in [
-        (&[(200, LIST), (200, FIRST)][..], FetchAnswer::Ok { changed: true }, 2),
+        (
+            &[(200, LIST), (200, FIRST)][..],
+            FetchAnswer::Ok { changed: true },
+            2,
+        ),
         (&[(200, OTHER_TEXT)], renamed, 1),
         (&[(200, PURGED)], FetchAnswer::Ok { changed: true }, 1),
         (&[(200, LIST)], FetchAnswer::Revived(1), 1),
@@ -201,8 +232,24 @@ fn a_mirror_keeps_its_numbers(rt: HostRuntime) -> Result<(), Fail> {
 fn an_archive_that_is_no_mirror_asks_for_nothing(rt: HostRuntime) -> Result<(), Fail> {
     let mut disk = empty_disk(rt.alloc());
     make(rt.alloc(), &mut disk, false)?;
-    assert!(rt; fetches(rt.alloc(), &mut disk, &[(200, LIST)], FetchAnswer::NotMirror, 0)?);
+    assert!(rt;
+        fetches(
+            rt.alloc(),
+            &mut disk,
+            &[(200, LIST)],
+            FetchAnswer::NotMirror,
+            0
+        )?
+    );
     Ok(())
+}
+
+/// Returns whether a peer was asked for a path at an index.
+fn is_asked(peer: &MemPeer, index: usize, path: &[u8]) -> bool {
+    match peer.asked().get(index) {
+        Some(asked) => asked.as_slice() == path,
+        None => false,
+    }
 }
 
 #[test]
@@ -210,8 +257,7 @@ fn a_peer_is_asked_for_paths_of_the_archive(rt: HostRuntime) -> Result<(), Fail>
     let mut disk = mirror(rt.alloc())?;
     let mut peer = peer_of(rt.alloc(), &[(200, LIST), (200, FIRST)])?;
     let _ = answer_from(rt.alloc(), &mut disk, &mut peer)?;
-    let asked = peer.asked();
-    assert!(rt; asked[0].as_slice() == b"/list/_/list".as_slice());
-    assert!(rt; asked[1].as_slice() == BLOB);
+    assert!(rt; is_asked(&peer, 0, LISTING));
+    assert!(rt; is_asked(&peer, 1, BLOB));
     Ok(())
 }
