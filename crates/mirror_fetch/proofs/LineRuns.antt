@@ -20,7 +20,7 @@ use Rattle.fetch_course.specs.Courses.{HoldsAll, after_paths, archive_with, entr
 use Rattle.fetch_course.specs.Peering.{PeerGave}
 use Rattle.fetch_course.proofs.Lines.{right-line}
 use Rattle.fetch_course.proofs.Valid.{ValidSoFar, valid-more}
-use Rattle.mirror_fetch.specs.Taking.{EndsAs, GoesLine, LinesGo, StartsTaking, TakesOne, TookEntries, TookLine, TookLines}
+use Rattle.mirror_fetch.specs.Taking.{EndsAs, GoesLine, LinesGo, StartsTaking, TakesOneOn, TookEntries, TookLine, TookLines}
 use Rattle.mirror_fetch.specs.declared.taking.Taking.{Taking}
 use Rattle.mirror_fetch.proofs.Gave.{gave-both, gave-none}
 use Rattle.mirror_fetch.proofs.Goes.{after-both, ends-after}
@@ -78,7 +78,7 @@ module _ (form : Form) (next : ℕ) (lines : List EntryLine) (follow : EachMayFo
   pub follows-at : MayFollow form next (take n lines) line
   follows-at = follow_left.0
 
-  pub before-next : (old new : Taking) → AreBefore (drop n lines) old.adoption.planned.entries → TakesOne line old new → AreBefore (drop (n + 1) lines) new.adoption.planned.entries
+  pub before-next : (old new : Taking) → AreBefore (drop n lines) old.adoption.planned.entries → TakesOneOn line old new → AreBefore (drop (n + 1) lines) new.adoption.planned.entries
   before-next old new before one =
       let all : AreBefore (line ∷ drop (n + 1) lines) old.adoption.planned.entries = subst (λ (l : List EntryLine). AreBefore l old.adoption.planned.entries) left_is before in
       before_more line.epoch (drop (n + 1) lines) old.adoption.planned.entries new.adoption.planned.entries one.0 one.1 one.2
@@ -204,7 +204,7 @@ module _ (form : Form) (next : ℕ) (lines : List EntryLine) (follow : EachMayFo
   pub read-follows : MayFollow form next (take n lines) (get_or lines n d)
   read-follows = follows-at form next lines follow n (get_or lines n d) within (any_line lines n d within)
 
-  pub read-next : (old new : Taking) → AreBefore (drop n lines) old.adoption.planned.entries → TakesOne (get_or lines n d) old new → AreBefore (drop (n + 1) lines) new.adoption.planned.entries
+  pub read-next : (old new : Taking) → AreBefore (drop n lines) old.adoption.planned.entries → TakesOneOn (get_or lines n d) old new → AreBefore (drop (n + 1) lines) new.adoption.planned.entries
   read-next old new before one = before-next form next lines follow n (get_or lines n d) within (any_line lines n d within) old new before one
 
 pub read-goes : {P : Type 0} (p : Peer P) (x y z : P) (v : StoreState) (c m : Option Content) (same : BothTold Unchanged c m) (next : ℕ) (lines : List EntryLine) (follow : EachMayFollow v.root.config.form next [] lines) (n : ℕ) (d : EntryLine) (within : n < length lines) (old new : Taking) → TookSoFar p x y v c next lines n old → TookLine p y z v m (n + 4) (get_or lines n d) old new (Ok tt) → TookSoFar p x z v c next lines (n + 1) new

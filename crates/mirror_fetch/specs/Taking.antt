@@ -52,8 +52,8 @@ pub record IsTakingOf (v : StoreState) (t : Taking) : Type 0 where
   pub asked : AskedWithin t.asked
 
 -- One entry more is planned, in the epoch of a line.
-abbrev pub TakesOne : EntryLine → Taking → Taking → Type 0
-TakesOne line old new = (s : StoredEntry)
+abbrev pub TakesOneOn : EntryLine → Taking → Taking → Type 0
+TakesOneOn line old new = (s : StoredEntry)
     × (new.adoption.planned.entries ≡ old.adoption.planned.entries ++ s ∷ []) × (s.epoch ≡ line.epoch)
 
 -- On the disk of an archive these entries were taken: they are planned, and their texts that are none of

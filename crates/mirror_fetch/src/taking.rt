@@ -24,7 +24,7 @@ ghost use Rattle.fetch_course.specs.Courses.{entry_on, misfits, wrong_text};
 ghost use Rattle.fetch_course.specs.Peering.{blob_path as blob_path_of};
 ghost use Rattle.mirror_fetch.specs.Fetching.{Fetches, done_by};
 ghost use Rattle.mirror_fetch.specs.Own.{AskedWithin, OwnAre, PutsAsked};
-ghost use Rattle.mirror_fetch.specs.Taking.{AddsText, AnswersAdoption, ChecksAdded, ChecksKept, IsNotOwn, IsOfText, IsTakingOf, IsUnknown, PlannedFetch, StartsTaking, TakesOne, TookLine, TookLines, TookList, TookUnread, answer_by, unless_wrong, wrong_commit};
+ghost use Rattle.mirror_fetch.specs.Taking.{AddsText, AnswersAdoption, ChecksAdded, ChecksKept, IsNotOwn, IsOfText, IsTakingOf, IsUnknown, PlannedFetch, StartsTaking, TakesOneOn, TookLine, TookLines, TookList, TookUnread, answer_by, unless_wrong, wrong_commit};
 
 use crate::listing::{ask_list, is_other};
 use crate::own::{Asked, Own};
@@ -184,7 +184,7 @@ impl Taking {
         requires epoch { line.now.epoch ≤ greatest_epoch }
         requires later { AreUpToEpoch line.now.epoch self.old.adoption.planned.entries }
         ensures of_ { OnOk result (IsTakingOf store.now self.new) }
-        ensures one { OnOk result (TakesOne line.now self.old self.new) }
+        ensures one { OnOk result (TakesOneOn line.now self.old self.new) }
         ensures asked { self.new.asked ≡ self.old.asked }
         ensures added { (k : Content) (cache : List ℕ) (a : Archive) (es : List Entry)
             → IsDiskWith store.now cache a k → PlansAdopted store.now cache a k es self.old.adoption
@@ -247,7 +247,7 @@ impl Taking {
         requires epoch { line.now.epoch ≤ greatest_epoch }
         requires later { AreUpToEpoch line.now.epoch self.old.adoption.planned.entries }
         ensures of_ { OnOk result (IsTakingOf store.now self.new) }
-        ensures one { OnOk result (TakesOne line.now self.old self.new) }
+        ensures one { OnOk result (TakesOneOn line.now self.old self.new) }
         ensures took { TookUnread P.Peer peer.old peer.new store.now (IsUnknown line.now) at line.now
             self.old self.new result }
         ensures disk { result ≢ Err Answer.DiskFault }
@@ -266,7 +266,8 @@ impl Taking {
     /// Keeps a text that was asked for, by the blob id of its line.
     fn keep_asked(&mut self, line: &EntryLine, text: Bytes) -> Result<(), FetchAnswer>
         ensures same { (self.new.adoption ≡ self.old.adoption) × (self.new.index ≡ self.old.index) }
-        ensures put { AskedWithin self.old.asked → OnOk result (PutsAsked self.old.asked self.new.asked line.now.blob text) }
+        ensures put { AskedWithin self.old.asked
+            → OnOk result (PutsAsked self.old.asked self.new.asked line.now.blob text) }
         ensures refused { OnErr result (result ≡ Err Answer.NoMemory) }
     {
         self.asked.put(line.blob, text)?;
@@ -290,7 +291,7 @@ impl Taking {
         requires epoch { line.now.epoch ≤ greatest_epoch }
         requires later { AreUpToEpoch line.now.epoch self.old.adoption.planned.entries }
         ensures of_ { OnOk result (IsTakingOf store.now self.new) }
-        ensures one { OnOk result (TakesOne line.now self.old self.new) }
+        ensures one { OnOk result (TakesOneOn line.now self.old self.new) }
         ensures took { TookUnread P.Peer peer.old peer.new store.now (IsNotOwn line.now) at line.now
             self.old self.new result }
         ensures disk { result ≢ Err Answer.DiskFault }
@@ -323,7 +324,7 @@ impl Taking {
         requires epoch { line.now.epoch ≤ greatest_epoch }
         requires later { AreUpToEpoch line.now.epoch self.old.adoption.planned.entries }
         ensures of_ { OnOk result (IsTakingOf store.now self.new) }
-        ensures one { OnOk result (TakesOne line.now self.old self.new) }
+        ensures one { OnOk result (TakesOneOn line.now self.old self.new) }
         ensures took { TookLine P.Peer peer.old peer.new store.now (D.content disk.old) at line.now
             self.old self.new result }
         ensures reads { OnlyReads D.Disk disk.old disk.new }
@@ -379,7 +380,7 @@ impl Taking {
         requires epoch { line.now.epoch ≤ greatest_epoch }
         requires later { AreUpToEpoch line.now.epoch self.old.adoption.planned.entries }
         ensures of_ { OnOk result (IsTakingOf store.now self.new) }
-        ensures one { OnOk result (TakesOne line.now self.old self.new) }
+        ensures one { OnOk result (TakesOneOn line.now self.old self.new) }
         ensures took { TookLine P.Peer peer.old peer.new store.now (D.content disk.old) at line.now
             self.old self.new result }
         ensures reads { OnlyReads D.Disk disk.old disk.new }
