@@ -1,5 +1,5 @@
 -- What a fetch promises, from what was planned and what was adopted.
-use Rattle.std.proofs.Common.{◌≡◌, ◌≢◌, ◌+◌, ◌-◌, ◌<◌, ◌≤◌, ◌==◌, ◌^◌, ℕ, Bool, true, false, List, [], ◌∷◌, Option, Some, None, Result, Ok, Err, refl, sym, ap, subst, ◌∙◌, arith, append-nil, if◌then◌else◌}
+use Rattle.std.proofs.Common.{◌++◌, ◌≡◌, ◌≢◌, ◌+◌, ◌-◌, ◌<◌, ◌≤◌, ◌==◌, ◌^◌, ℕ, Bool, true, false, List, [], ◌∷◌, Option, Some, None, Result, Ok, Err, refl, sym, ap, subst, ◌∙◌, arith, append-nil, if◌then◌else◌}
 use Rattle.std.specs.Bool.{MatchBool}
 use Rattle.std.proofs.lemmas.Option.{same_Some}
 use Rattle.std.proofs.lemmas.Result.{on_ok_weaker}
@@ -36,9 +36,9 @@ use Rattle.epoch_store.proofs.Readying.{read_begins}
 use Rattle.fetch_course.specs.declared.answer.FetchAnswer.{FetchAnswer}
 use Rattle.fetch_course.specs.declared.answer.FetchAnswer.TheVariants as answer
 use Rattle.fetch_course.specs.Courses.{FetchCourse, FetchLeads, FetchStage, AsksOn, ComesTo, HoldsAll, MirrorLeads, archive_with, comes_to, lines_course, read_course, wrong_list}
-use Rattle.fetch_course.specs.Laws.{HoldsFollowers}
+use Rattle.fetch_course.specs.Laws.{AreOnce, AsksOnce, HoldsFollowers, IsNoneOf}
 use Rattle.fetch_course.proofs.Lines.{unless_holds}
-use Rattle.mirror_fetch.specs.Fetching.{AnswersBy, DifferIf, Fetches, IfAdopted, ReadsFirst, course_over, done_by, mirror_course, reached}
+use Rattle.mirror_fetch.specs.Fetching.{WentBy, AnswersBy, DifferIf, Fetches, IfAdopted, ReadsFirst, course_over, done_by, mirror_course, reached}
 use Rattle.mirror_fetch.specs.Taking.{AnswersAdoption, EndsAs, FetchGoes, IsEndOf, IsRefused, PlannedFetch}
 use Rattle.mirror_fetch.specs.declared.taking.Planned.{Planned}
 use Rattle.mirror_fetch.proofs.Took.{form-of}
@@ -106,6 +106,18 @@ module _ (law : HoldsFollowers) (v : StoreState) (content : Option Content) (giv
 
   pub follows-so : (a b : Archive) (cache : List ℕ) → IsStoreWith v cache a content → (course_over a given read).stage ≡ HoldsAll b → IsArchive b × Follows a b
   follows-so a b cache store stage = (let keeps = store_keeps v cache a content store in reached-follows law a b given read keeps.0 (subst (λ (f : Form). ReadsFirst f given read) keeps.1 reads) stage)
+
+-- The first ones of paths that are there once are there once.
+none_front : (path : List ℕ) (xs ys : List (List ℕ)) → IsNoneOf path (xs ++ ys) → IsNoneOf path xs
+none_front path [] ys none = tt
+none_front path (x ∷ xs) ys none = (none.0, none_front path xs ys none.1)
+
+once_front : (xs ys : List (List ℕ)) → AreOnce (xs ++ ys) → AreOnce xs
+once_front [] ys once = tt
+once_front (x ∷ xs) ys once = (none_front x xs ys once.0, once_front xs ys once.1)
+
+once_so : AsksOnce → (a : Archive) (given : List Reply) (read : Result MirrorList ListRefusal) (put : List (List ℕ)) (why : FetchAnswer) → FetchLeads a given (course_over a given read) → WentBy (course_over a given read).asked put why → AreOnce put
+once_so law a given read put why leads went = once_front put went.others (subst AreOnce went.is (law a given (course_over a given read) leads))
 
 -- An answer that isn't `Ok`.
 answers_end : (a : Archive) (stage : FetchStage) (why : FetchAnswer) → IsRefused why → IsEndOf why stage → AnswersBy a stage why
@@ -183,7 +195,7 @@ module _ {D : Type 0} {g : Disk D} {disk mid : D} {v : StoreState} (only : OnlyR
   stopped_by true cause = unplanned only refusal.DiskFault refl (λ a cache store. tt) tt cause fewest
   stopped_by false cause = unplanned only refusal.NoMemory refl (λ a cache store. tt) tt cause fewest
 
-module _ {D P : Type 0} {g : Disk D} {p : Peer P} {disk mid : D} {x y : P} {v : StoreState} (law : HoldsFollowers) (only : OnlyReads g disk mid) (fewest : g.reads disk ≤ g.reads mid) where
+module _ {D P : Type 0} {g : Disk D} {p : Peer P} {disk mid : D} {x y : P} {v : StoreState} (once_law : AsksOnce) (law : HoldsFollowers) (only : OnlyReads g disk mid) (fewest : g.reads disk ≤ g.reads mid) where
   -- Nothing was adopted.
   pub fetch-refused : (why : FetchAnswer) → PlannedFetch p x y v (g.content disk) (Err why) → RoseIf (◌≡◌ {A = Result Planned FetchAnswer} (Err why) (Err answer.DiskFault)) (g.faults disk) (g.faults mid) → RoseIf (◌≡◌ {A = Result Planned FetchAnswer} (Err why) (Err answer.PeerFault)) (p.faults x) (p.faults y)
       → Fetches g p disk mid v v x y why
@@ -199,13 +211,17 @@ module _ {D P : Type 0} {g : Disk D} {p : Peer P} {disk mid : D} {x y : P} {v : 
         reads = planned.reads;
         leads = leads-so law v (g.content disk) planned.given planned.read planned.reads;
         answered = λ a cache store. answers_end a (course_over a planned.given planned.read).stage why planned.refused (ends a cache store).stage;
-        went = λ a cache store. record { others = (ends a cache store).others; is = (ends a cache store).paths; all = not_adopted why ((ends a cache store).others ≡ []) planned.refused };
+        went = went_by;
+        once = λ a cache store. once_so once_law a planned.given planned.read planned.put why (leads-so law v (g.content disk) planned.given planned.read planned.reads a cache store) (went_by a cache store);
         follows = follows-so law v (g.content disk) planned.given planned.read planned.reads;
         changes = subst (λ (r : Result (Unit {0}) StoreRefusal). ChangesStore g disk mid v v Renews (λ (a b : Archive). b ≡ reached a (course_over a planned.given planned.read).stage) r) (sym s.done)
             (stopped_by only fewest s.fault (subst (λ (r : Result (Unit {0}) StoreRefusal). RoseIf (r ≡ Err refusal.DiskFault) (g.faults disk) (g.faults mid)) s.done by_store));
         disk_cause = disk_cause;
         peer_cause = rose_so (p.faults x) (p.faults y) (same_err why answer.PeerFault) (λ same. ap Err same) peer_rose;
       } where
+        went_by : (a : Archive) (cache : List ℕ) → IsStoreWith v cache a (g.content disk) → WentBy (course_over a planned.given planned.read).asked planned.put why
+        went_by a cache store = (let it = told_store v (λ (k : Content) (cache : List ℕ) (a : Archive). EndsAs (course_over a planned.given planned.read) planned.put why) (g.content disk) planned.goes a cache store in record { others = it.2.others; is = it.2.paths; all = not_adopted why (it.2.others ≡ []) planned.refused })
+
         ends : (a : Archive) (cache : List ℕ) → IsStoreWith v cache a (g.content disk) → EndsAs (course_over a planned.given planned.read) planned.put why
         ends a cache store = (told_store v (λ (k : Content) (cache : List ℕ) (a : Archive). EndsAs (course_over a planned.given planned.read) planned.put why) (g.content disk) planned.goes a cache store).2
 
@@ -345,7 +361,7 @@ all_adopted (answer.Revived number) = tt
 all_adopted (answer.Behind had offered) = tt
 all_adopted (answer.BadCommit listed computed) = tt
 
-module _ {D P : Type 0} {g : Disk D} {p : Peer P} {disk mid new : D} {x y : P} {v after : StoreState} (law : HoldsFollowers) (only : OnlyReads g disk mid) (fewest : g.reads disk ≤ g.reads mid) (plan : Planned) (planned : PlannedFetch p x y v (g.content disk) (Ok plan))
+module _ {D P : Type 0} {g : Disk D} {p : Peer P} {disk mid new : D} {x y : P} {v after : StoreState} (once_law : AsksOnce) (law : HoldsFollowers) (only : OnlyReads g disk mid) (fewest : g.reads disk ≤ g.reads mid) (plan : Planned) (planned : PlannedFetch p x y v (g.content disk) (Ok plan))
     (disk_rose : RoseIf (◌≡◌ {A = Result Planned FetchAnswer} (Ok plan) (Err answer.DiskFault)) (g.faults disk) (g.faults mid)) (peer_rose : RoseIf (◌≡◌ {A = Result Planned FetchAnswer} (Ok plan) (Err answer.PeerFault)) (p.faults x) (p.faults y)) where
   pub fetch-adopted : (told : FetchAnswer) → AnswersAdoption plan.changed told → ChangesStore g mid new v after Renews (Adopts v plan.adoption plan.next (g.content mid)) (done_by told) → Fetches g p disk new v after x y told
   fetch-adopted told fit carried =
@@ -359,11 +375,8 @@ module _ {D P : Type 0} {g : Disk D} {p : Peer P} {disk mid new : D} {x y : P} {
         reads = planned.reads;
         leads = leads-so law v (g.content disk) planned.given planned.read planned.reads;
         answered = λ a cache store. adopt_answers p x y v (g.content disk) plan planned told a cache store fit;
-        went = λ a cache store. record {
-          others = [];
-          is = ap (λ (c : FetchCourse). c.asked) ((went_so p x y v (g.content disk) plan planned a cache store).2.2) ∙ sym (append-nil planned.put);
-          all = all_adopted told;
-        };
+        went = went_by;
+        once = λ a cache store. once_so once_law a planned.given planned.read planned.put told (leads-so law v (g.content disk) planned.given planned.read planned.reads a cache store) (went_by a cache store);
         follows = follows-so law v (g.content disk) planned.given planned.read planned.reads;
         changes = changes;
         disk_cause = rose_so (g.faults disk) (g.faults new) (adopt_fault plan.changed told fit) (λ same. ap done_by same) changes.cause;
@@ -372,4 +385,10 @@ module _ {D P : Type 0} {g : Disk D} {p : Peer P} {disk mid new : D} {x y : P} {
           failed = λ fault. absurd (no_peer plan.changed told fit fault);
           kept = λ never. peer_rose.kept (λ same. absurd (cc same));
         };
-      }
+      } where
+        went_by : (a : Archive) (cache : List ℕ) → IsStoreWith v cache a (g.content disk) → WentBy (course_over a planned.given planned.read).asked planned.put told
+        went_by a cache store = record {
+          others = [];
+          is = ap (λ (c : FetchCourse). c.asked) ((went_so p x y v (g.content disk) plan planned a cache store).2.2) ∙ sym (append-nil planned.put);
+          all = all_adopted told;
+        }

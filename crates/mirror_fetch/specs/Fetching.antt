@@ -18,6 +18,7 @@ use Rattle.store_finding.specs.Kept.{IsStoreWith, StoreState}
 use Rattle.epoch_store.specs.Promises.{ChangesStore, Renews}
 use Rattle.fetch_course.specs.declared.answer.FetchAnswer.{FetchAnswer}
 use Rattle.fetch_course.specs.declared.answer.FetchAnswer.TheVariants as answer
+use Rattle.fetch_course.specs.Laws.{AreOnce}
 use Rattle.fetch_course.specs.Peering.{PeerGave, list_path}
 use Rattle.fetch_course.specs.Courses.{FetchCourse, FetchLeads, FetchStage, AsksOn, ComesTo, HoldsAll, after_paths, asks_for, comes_to, read_course}
 
@@ -79,8 +80,8 @@ done_by other = Err refusal.NoMemory
 -- An archive on a disk is fetched from a peer. The replies that were given are the first of those to
 -- come, the first of them is read as this, and the paths that were put follow those that were asked for.
 -- On a disk that tells its content, where that is the own one of a mirror's store, the rules of a fetch lead
--- over these replies to the answer, and the paths are those that they ask for, in order: the first ones, and
--- after `Ok` all. An archive to which they lead is valid and follows the mirror's. At each moment a crash
+-- over these replies to the answer, and the paths are those that they ask for, in order and each once: the
+-- first ones, and after `Ok` all. An archive to which they lead is valid and follows the mirror's. At each moment a crash
 -- leaves the archive before or that one, and after `Ok` the latter; each other answer but a fault of the
 -- disk leaves archive and files as they were. It tells of a fault of the disk or of the peer only if that
 -- object's count of faults rose.
@@ -97,6 +98,7 @@ pub record Fetches {D P : Type 0} (g : Disk D) (p : Peer P) (old new : D) (befor
       → AnswersBy a (course_over a given read).stage told
   pub went : (a : Archive) (cache : List ℕ) → IsStoreWith before cache a (g.content old)
       → WentBy (course_over a given read).asked put told
+  pub once : (a : Archive) (cache : List ℕ) → IsStoreWith before cache a (g.content old) → AreOnce put
   pub follows : (a b : Archive) (cache : List ℕ) → IsStoreWith before cache a (g.content old)
       → (course_over a given read).stage ≡ HoldsAll b → IsArchive b × Follows a b
   pub changes : ChangesStore g old new before after Renews
