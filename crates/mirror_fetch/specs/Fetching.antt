@@ -79,12 +79,12 @@ done_by other = Err refusal.NoMemory
 
 -- An archive on a disk is fetched from a peer. The replies that were given are the first of those to
 -- come, the first of them is read as this, and the paths that were put follow those that were asked for.
--- On a disk that tells its content, where that is the own one of a mirror's store, the rules of a fetch lead
--- over these replies to the answer, and the paths are those that they ask for, in order and each once: the
--- first ones, and after `Ok` all. An archive to which they lead is valid and follows the mirror's. At each moment a crash
--- leaves the archive before or that one, and after `Ok` the latter; each other answer but a fault of the
--- disk leaves archive and files as they were. It tells of a fault of the disk or of the peer only if that
--- object's count of faults rose.
+-- On a disk that tells its content, where that is the own one of a mirror's store, the rules of a fetch
+-- lead over these replies to the answer, and the paths are those that they ask for, in order and each once:
+-- the first ones, and after `Ok` all. An archive to which they lead is valid and follows the mirror's. At
+-- each moment a crash leaves the archive before or that one, and after `Ok` the latter; each other answer
+-- but a fault of the disk leaves archive and files as they were. It tells of a fault of the disk or of the
+-- peer only if that object's count of faults rose.
 pub record Fetches {D P : Type 0} (g : Disk D) (p : Peer P) (old new : D) (before after : StoreState)
     (asking asked : P) (told : FetchAnswer) : Type 0 where
   pub given : List Reply
