@@ -2,7 +2,7 @@
 //! that takes, and how much memory, is measured from outside.
 //! Reads and writes the disk; calls the system.
 //!
-//! The first line of the standard input is `adopt` or `open`. After it comes the list, after a line with
+//! The first line of the standard input is `adopt`, `list` or `open`. After it comes the list, after a line with
 //! its length in bytes, and then the text of each line of it that names no entry of the mirror, each
 //! after a line with its length. Printed is `adopted COUNT` or `opened COUNT`, COUNT being the number of
 //! entries, or what failed.
@@ -22,7 +22,7 @@ use epoch_store::{Adoption, Store};
 use mail_commits::text_ids;
 use mail_reader::own_id;
 use memchr::memchr;
-use mirror_wire::read;
+use mirror_wire::{MirrorList, read};
 use real_edges::FolderDisk;
 use std::alloc::Global;
 use std::io::{self, Input, Read, Write};
@@ -80,8 +80,10 @@ fn walk<D: Disk>(alloc: Global, disk: &mut D, input: &[u8]) -> Result<Bytes, Fai
         return Err(Failed::Input);
     };
     let mut store = open(alloc, disk)?;
-    if word == b"adopt" {
+    if word == b"adopt".as_slice() {
         follow(alloc, disk, &mut store, rest)?;
+    } else if word == b"list".as_slice() {
+        let _list = listed(alloc, &store, rest)?;
     }
     let mut printed = Bytes::new(alloc);
     printed.push_slice(word)?;
@@ -105,15 +107,21 @@ fn open<D: Disk>(alloc: Global, disk: &mut D) -> Result<Store, Failed>
 fn follow<D: Disk>(alloc: Global, disk: &mut D, store: &mut Store, input: &[u8]) -> Result<(), Failed>
     requires sizes { WhereTold (StoreHasSizes store.old) (D.content disk.old) }
 {
-    let Some((text, rest)) = next_text(input) else {
-        return Err(Failed::Input);
-    };
-    let Ok(list) = read(alloc, text, store.config().form) else {
-        return Err(Failed::Input);
-    };
+    let (list, rest) = listed(alloc, store, input)?;
     let mut adoption = Adoption::new(alloc, store);
     take_lines(alloc, disk, store, &mut adoption, list.lines.as_slice(), rest)?;
     adopt_to(alloc, disk, store, adoption, list.next)
+}
+
+/// Returns the list at the front of an input, and the rest.
+fn listed<'a>(alloc: Global, store: &Store, input: &'a [u8]) -> Result<(MirrorList, &'a [u8]), Failed> {
+    let Some((text, rest)) = next_text(input) else {
+        return Err(Failed::Input);
+    };
+    match read(alloc, text, store.config().form) {
+        Ok(list) => Ok((list, rest)),
+        Err(_refusal) => Err(Failed::Input),
+    }
 }
 
 /// Lets a store become the archive that an adoption plans, with a next number that may be one.
